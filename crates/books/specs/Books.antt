@@ -1,0 +1,65 @@
+-- Notes, configurations and books: 01, "Books, boxes and containment", sentence by sentence.
+use Prim.Native.Nat.{ℕ, _*_, _/_, _^_}
+use mathlib.Core.Bool.{Bool}
+use lib.Dec.{eqb, ltb}
+use Rattle.sets.specs.Choice.{pick, both}
+use Rattle.sets.specs.Sets.{union, inside, members}
+use Rattle.sets.specs.Majority.{majorityOf}
+use Rattle.books.specs.declared.Notes.{Notes}
+use Rattle.books.specs.declared.Config.{Config}
+use Rattle.books.specs.declared.Book.{Book}
+
+-- "Tablet t owns 8t to 8t+7": the tablet that owns a note
+abbrev pub owner : ℕ → ℕ
+owner note = note / 8
+
+-- "Notes are a set of 64 bits, note n having weight 2^n": no notes
+abbrev pub noNotes : Notes
+noNotes = record { set = 0 }
+
+-- the tablet's eight own notes, its lowest number having weight 1, at their places among all; a tablet over 7 owns none
+unfoldable pub ownNotes : ℕ → ℕ → Notes
+ownNotes tablet eight = record { set = pick (ltb 7 tablet) 0 (eight * 2 ^ (8 * tablet)) }
+
+-- "A configuration is two sets of boxes, added and removed": no boxes at all
+abbrev pub noConfig : Config
+noConfig = record { added = 0; removed = 0 }
+
+-- "Members are those added and not removed."
+abbrev pub membersOf : Config → ℕ
+membersOf c = members (c .added) (c .removed)
+
+-- "A book is notes and a configuration": the book of no notes and no boxes
+abbrev pub noBook : Book
+noBook = record { notes = noNotes; config = noConfig }
+
+-- "One contains another when each of the three sets does": a is contained in b, for notes, configurations, books
+abbrev pub notesInside : Notes → Notes → Bool
+notesInside a b = inside (a .set) (b .set)
+
+abbrev pub configInside : Config → Config → Bool
+configInside a b = both (inside (a .added) (b .added)) (inside (a .removed) (b .removed))
+
+abbrev pub bookInside : Book → Book → Bool
+bookInside a b = both (notesInside (a .notes) (b .notes)) (configInside (a .config) (b .config))
+
+-- "Joining is union, set by set": of notes, configurations, books
+abbrev pub joinNotes : Notes → Notes → Notes
+joinNotes a b = record { set = union (a .set) (b .set) }
+
+abbrev pub joinConfigs : Config → Config → Config
+joinConfigs a b = record { added = union (a .added) (b .added); removed = union (a .removed) (b .removed) }
+
+abbrev pub joinBooks : Book → Book → Book
+joinBooks a b = record { notes = joinNotes (a .notes) (b .notes); config = joinConfigs (a .config) (b .config) }
+
+-- the same notes, the same configuration
+abbrev pub sameNotes : Notes → Notes → Bool
+sameNotes a b = eqb (a .set) (b .set)
+
+abbrev pub sameConfig : Config → Config → Bool
+sameConfig a b = both (eqb (a .added) (b .added)) (eqb (a .removed) (b .removed))
+
+-- "A majority of a configuration": of its members, these answered
+abbrev pub hasMajority : Config → ℕ → Bool
+hasMajority c answered = majorityOf (c .added) (c .removed) answered

@@ -1,0 +1,5 @@
+pub mod Semilattice
+pub mod SetLaws
+pub mod BelowLaws
+pub mod Parts
+pub mod MajorityLaws

@@ -1,0 +1,4 @@
+pub mod Choice
+pub mod Sets
+pub mod Below
+pub mod Majority
