@@ -1,10 +1,9 @@
 -- The listed changes, sets of them, and the configurations that a round queries (01, "Begin a round"; Figure 2, lines 7 to 9).
 -- A set of listed changes is a set of their places in the list, 0 to 5.
-use Prim.Native.Nat.{ℕ, zero, suc, _+_}
+use Prim.Native.Nat.{ℕ, suc, _+_}
 use mathlib.Core.Bool.{Bool, true, not}
 use mathlib.Core.List.{List, [], _∷_}
 use lib.ListN.{getD, take, set}
-use lib.Dec.{ltb}
 use Rattle.sets.specs.Choice.{pick, both}
 use Rattle.sets.specs.Sets.{has, inside}
 use Rattle.sets.specs.Below.{times, each, unions, those}

@@ -1,17 +1,17 @@
 -- Laws of weights and majorities. The main one: two majorities of one configuration share a member, by any weights (`majorities-meet`).
 use Prim.Native.Nat.{ℕ, zero, suc, _+_, _*_, _%_, _^_, _<_, _≤_, min}
-use mathlib.Core.Bool.{true, false}
+use mathlib.Core.Bool.{true}
 use mathlib.Core.Path.{_≡_, refl, sym, ap, ap₂, _∙_}
 use mathlib.Core.Logic.{_⊎_, inl, inr, ⊎-elim}
 use native.Mathlib.Nat.{mul-le-mul-right, lt-irrefl, mod-lt, le-of-suc-le-suc}
-use native.Mathlib.Numerals.{add-one, one-add}
+use native.Mathlib.Numerals.{one-add}
 use native.Mathlib.Omega.{arith}
 use lib.Arith.{lt-one}
 use lib.Count.{ones, onesIn, ones-cat}
 use lib.Pow.{pow-pos, recompose}
 use borrow.Author.Tests.{ltb-true}
-use Rattle.sets.specs.Sets.{digit, shared, members}
-use Rattle.sets.specs.Majority.{one, weigh, majority, majorityOf}
+use Rattle.sets.specs.Sets.{digit, shared}
+use Rattle.sets.specs.Majority.{one, weigh, majority}
 use Rattle.sets.proofs.SetLaws.{digit-lt, digit-low, digit-high, digit-shared}
 
 -- ---- Two majorities meet

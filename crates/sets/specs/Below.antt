@@ -1,6 +1,6 @@
 -- What is said of all numbers below a bound: of each, of the set of some, of one after the other.
 use Prim.Native.Nat.{ℕ, zero, suc, _+_, _*_, _^_}
-use mathlib.Core.Bool.{Bool, true, false}
+use mathlib.Core.Bool.{Bool, true}
 use Rattle.sets.specs.Choice.{both, pick}
 use Rattle.sets.specs.Sets.{union}
 

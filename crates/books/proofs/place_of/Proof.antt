@@ -1,54 +1,55 @@
+use Prim.Native.Nat.{_≤_, _-_}
+use mathlib.Core.Path.{sym, _∙_}
+use mathlib.Core.Logic.{inl, inr}
+use native.Mathlib.Omega.{arith}
+use borrow.Author.Needs.{needs}
+use Rattle.books.proofs.Turns.{Sought, length-mapped, sought-none, sought-on, sought-here, sought-end}
 use Rattle.books.proofs.place_of.Statement.{statement}
 use Rattle.books.proofs.place_of.Tie as tie
-use Rattle.books.proofs.place_of.Reads as reads
-use Rattle.books.proofs.place_of.Lts as lts
-use Rattle.books.proofs.same_config.Reads as same-config-reads
 
 abbrev Inv-loop : tie.InvT-loop
-Inv-loop listed change changes i₀ i = ?
+Inv-loop listed change changes i₀ i = (i ≤ 6) × Sought listed change i
 
 abbrev μ-loop : tie.MeasureT-loop
-μ-loop listed change changes i₀ i = ?
+μ-loop listed change changes i₀ i = 6 - i
 
--- src/lib.rt:115:5
 loop-holds : tie.Need-loop-holds Inv-loop μ-loop
-loop-holds c = ?
+loop-holds c = (omega arith, sought-none _ _ (search (needs, length-mapped)))
 
--- src/lib.rt:117:13
 returns : tie.Need-returns Inv-loop μ-loop
-returns c = ?
+returns c = sought-end _ _ (search (needs, length-mapped)) _ (inr (c .if1 .taken)) (c .before .before .before .loop .inv .1)
 
--- src/lib.rt:119:21
 mul-other : tie.Need-mul-other Inv-loop μ-loop
-mul-other c = ?
+mul-other c = omega arith
 
--- src/lib.rt:119:21
 array-copy-out-other : tie.Need-array-copy-out-other Inv-loop μ-loop
-array-copy-out-other c = ?
+array-copy-out-other c = omega arith
 
--- src/lib.rt:120:12
 same-config-requires : tie.Need-same-config-requires Inv-loop μ-loop
-same-config-requires c κs = ?
+same-config-requires c κs = tt
 
--- src/lib.rt:121:13
 returns-2 : tie.Need-returns-2 Inv-loop μ-loop
-returns-2 c = ?
+returns-2 c =
+    let l = c .before .before .before .before .before .before .loop in
+    sought-here _ _ (search (needs, length-mapped)) (l .i) (omega arith) (c .before .before .before .if1 .left) (l .inv .1)
+    (sym (c .before .same-config .ensures) ∙ c .if2 .taken)
 
--- src/lib.rt:123:9
 add-i : tie.Need-add-i Inv-loop μ-loop
-add-i c = ?
+add-i c = omega arith
 
--- src/lib.rt:115:5
 loop-less : tie.Need-loop-less Inv-loop μ-loop
-loop-less c = ?
+loop-less c = omega arith
 
--- src/lib.rt:115:5
 loop-again : tie.Need-loop-again Inv-loop μ-loop
-loop-again c = ?
+loop-again c =
+    let l = c .before .before .before .before .before .before .loop in (
+      omega arith,
+      sought-on _ _ (search (needs, length-mapped)) (l .i) (omega arith) (c .before .before .before .if1 .left) (l .inv .1)
+          (sym (c .before .same-config .ensures) ∙ c .if2 .left),
+    )
 
--- src/lib.rt:110:1
 returns-3 : tie.Need-returns-3 Inv-loop μ-loop
-returns-3 c = ?
+returns-3 c = sought-end _ _ (search (needs, length-mapped)) _ (inl (c .loop-test .left)) (c .before .loop .inv .1)
 
 pub place-of-spec : {M : Type 1} → statement M
 place-of-spec =

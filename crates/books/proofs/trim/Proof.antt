@@ -1,58 +1,74 @@
+use Prim.Native.Nat.{ℕ, _≤_, _-_}
+use mathlib.Core.Bool.{Bool}
+use mathlib.Core.List.{List}
+use mathlib.Core.Path.{_≡_, sym, _∙_}
+use mathlib.Core.Logic.{⊎-elim}
+use native.Mathlib.Omega.{arith}
+use lib.ListN.{getD}
+use Rattle.sets.specs.Below.{those}
+use Rattle.sets.proofs.BelowLaws.{those-zero, those-out}
+use Rattle.books.specs.declared.Config.{Config}
+use Rattle.books.specs.Books.{noConfig}
+use Rattle.books.specs.Queried.{stays, outside}
+use Rattle.books.proofs.Turns.{those-on, those-fits}
 use Rattle.books.proofs.trim.Statement.{statement}
 use Rattle.books.proofs.trim.Tie as tie
-use Rattle.books.proofs.trim.Reads as reads
-use Rattle.books.proofs.trim.Lts as lts
-use Rattle.books.proofs.stays_out.Reads as stays-out-reads
+
+-- change k of the array stays
+abbrev stayer : List Config → Config → ℕ → ℕ → Bool
+stayer changes config t k = stays (getD changes k noConfig) config t k
 
 abbrev Inv-loop : tie.InvT-loop
-Inv-loop config t changes out₀ k₀ out k = ?
+Inv-loop config t changes out₀ k₀ out k = (k ≤ 6) × (out ≡ those k (stayer changes config t))
 
 abbrev μ-loop : tie.MeasureT-loop
-μ-loop config t changes out₀ k₀ out k = ?
+μ-loop config t changes out₀ k₀ out k = 6 - k
 
--- src/lib.rt:144:5
 loop-holds : tie.Need-loop-holds Inv-loop μ-loop
-loop-holds c = ?
+loop-holds c = (omega arith, those-zero (stayer (c .before .args .listed .changes) (c .before .args .config) (c .before .args .t)))
 
--- src/lib.rt:145:22
 mul-change : tie.Need-mul-change Inv-loop μ-loop
-mul-change c = ?
+mul-change c = omega arith
 
--- src/lib.rt:145:22
 array-copy-out-change : tie.Need-array-copy-out-change Inv-loop μ-loop
-array-copy-out-change c = ?
+array-copy-out-change c = omega arith
 
--- src/lib.rt:146:12
 stays-out-requires : tie.Need-stays-out-requires Inv-loop μ-loop
-stays-out-requires c κs = ?
+stays-out-requires c κs = omega arith
 
--- src/lib.rt:147:25
 cast-out : tie.Need-cast-out Inv-loop μ-loop
-cast-out c = ?
+cast-out c = omega arith
 
--- src/lib.rt:147:20
 shl-out : tie.Need-shl-out Inv-loop μ-loop
-shl-out c = ?
+shl-out c = omega arith
 
--- src/lib.rt:147:13
 add-out : tie.Need-add-out Inv-loop μ-loop
-add-out c = ?
+add-out c =
+    let l = c .before .before .before .before .loop in
+    let a = c .before .before .before .before .before .before .args in
+    record { fits = those-fits (l .k) (stayer (a .listed .changes) (a .config) (a .t)) (omega arith) (l .inv .1) }
 
--- src/lib.rt:149:9
 add-k : tie.Need-add-k Inv-loop μ-loop
-add-k c = ?
+add-k c = omega arith
 
--- src/lib.rt:144:5
 loop-less : tie.Need-loop-less Inv-loop μ-loop
-loop-less c = ?
+loop-less c = omega arith
 
--- src/lib.rt:144:5
 loop-again : tie.Need-loop-again Inv-loop μ-loop
-loop-again c = ?
+loop-again c =
+    let l = c .before .before .before .before .loop in
+    let a = c .before .before .before .before .before .before .args in
+    let p = stayer (a .listed .changes) (a .config) (a .t) in
+    ⊎-elim
+    (λ w. (omega arith, w .1 ∙ those-on (l .k) p (omega arith) (l .inv .1) (sym (c .before .stays-out .ensures) ∙ w .0 .taken)))
+    (λ w. (omega arith, w .1 ∙ l .inv .1 ∙ those-out (l .k) p (sym (c .before .stays-out .ensures) ∙ w .0 .left)))
+    (c .if1 .came)
 
--- src/lib.rt:138:1
 returns : tie.Need-returns Inv-loop μ-loop
-returns c = ?
+unfolding outside
+returns c =
+    let e : c .before .loop .k ≡ 6 = omega arith in
+    rw e at (c .before .loop .inv .1)
 
 pub trim-spec : {M : Type 1} → statement M
 trim-spec =

@@ -1,0 +1,4 @@
+pub mod Turns
+pub mod BookLaws
+pub mod ListedLaws
+pub mod QueriedLaws
