@@ -1,0 +1,199 @@
+// One step of a run at a time, and the question whether a box may be unplugged. Every call takes any state and any numbers.
+use books::Book;
+use books::Config;
+use devices::Here;
+use devices::Message;
+use devices::Outcome;
+use devices::Step;
+use state::Run;
+use state::Slot;
+use state::Stepped;
+ghost use mathlib.Core.Path.{_≡_};
+ghost use Prim.Native.Nat.{_<_, _≤_, _^_};
+ghost use Rattle.sets.specs.Choice.{pick};
+ghost use Rattle.sets.specs.Sets.{has, union};
+ghost use Rattle.devices.specs.declared.Step.{Step};
+ghost use Rattle.state.specs.Slots.{emptySlot};
+ghost use Rattle.parlour.specs.Steps.{within, slotOf, deviceOf, taken, takenIf, mayUnplug};
+ghost use Rattle.parlour.specs.Working.{countsFree};
+
+// Whether a box may be unplugged, or the number of a refusal.
+pub enum Unplug {
+    May,
+    MayNot,
+    Unanswered(u8),
+}
+
+// A place below a bound, 0 where there is no such place.
+fn place_within(bound: usize, n: u8) -> usize
+    requires { ⌜ 0 < bound ⌝ }
+    ensures { λ r. ⌜ (r ≡ within bound n) × (r < bound) ⌝ }
+{
+    let i = n as usize;
+    if i < bound { i } else { 0 }
+}
+
+// The slot that a step names.
+fn slot_of(step: Step) -> usize
+    ensures { λ r. ⌜ (r ≡ slotOf step) × (r < 128) ⌝ }
+{
+    match step {
+        Step::Ask {
+            tablet: _,
+            notes: _,
+            pair: _,
+        } => 0,
+        Step::Advance(_) => 0,
+        Step::Deliver(slot) => place_within(128, slot),
+        Step::Lose(slot) => place_within(128, slot),
+        Step::Repeat(slot) => place_within(128, slot),
+        Step::Stop(_) => 0,
+    }
+}
+
+// The acting tablet, the addressee of the slot's message, or the device to stop.
+fn device_of(step: Step, m: Message) -> usize
+    ensures { λ r. ⌜ (r ≡ deviceOf step m) × (r < 24) ⌝ }
+{
+    match step {
+        Step::Ask {
+            tablet,
+            notes: _,
+            pair: _,
+        } => place_within(24, tablet),
+        Step::Advance(tablet) => place_within(24, tablet),
+        Step::Deliver(_) => place_within(24, devices::addressee_of(m)),
+        Step::Lose(_) => 0,
+        Step::Repeat(_) => 0,
+        Step::Stop(device) => place_within(24, device),
+    }
+}
+
+// The place of a device among the tablets, 0 where it is none.
+fn tablet_of(d: usize) -> usize
+    ensures { λ r. ⌜ (r ≡ within 8 d) × (r < 8) ⌝ }
+{
+    if d < 8 { d } else { 0 }
+}
+
+// How many slots are looked through for free ones: none where their number does not matter to the step.
+fn counted(step: Step) -> usize
+    ensures { λ r. ⌜ r ≡ pick (countsFree step) 128 0 ⌝ }
+{
+    match step {
+        Step::Ask { tablet: _, notes: _, pair: _ } => 128,
+        Step::Advance(_) => 128,
+        Step::Deliver(_) => 0,
+        Step::Lose(_) => 0,
+        Step::Repeat(_) => 128,
+        Step::Stop(_) => 0,
+    }
+}
+
+// A slot after a step: freed, or as it was.
+fn freed(slot: Slot, frees: bool) -> Slot
+    ensures { λ r. ⌜ r ≡ pick frees emptySlot slot ⌝ }
+{
+    if frees {
+        Slot {
+            message: Message::Empty,
+        }
+    } else {
+        slot
+    }
+}
+
+// The stopped devices after a step.
+fn stopped_after(stopped: u32, stops: bool, d: usize) -> u32
+    requires { ⌜ d < 24 ⌝ }
+    ensures { λ r. ⌜ r ≡ pick stops (union stopped (2 ^ d)) stopped ⌝ }
+{
+    if stops { stopped | (1 << d) } else { stopped }
+}
+
+// One step of a run, told whether its state is one: the rule sees the acting device's parts, and its effect is stored and its messages are laid.
+fn take(mut run: Run, proper: bool, step: Step) -> Stepped
+    ensures { λ r. ⌜ r ≡ takenIf proper step run ⌝ }
+{
+    let at = slot_of(step);
+    let slot = run.slots[at];
+    let message = slot.message;
+    let d = device_of(step, message);
+    let t = tablet_of(d);
+    let contents = run.devices[d];
+    let tablet = run.tablets[t];
+    let listed = run.listed;
+    let end = counted(step);
+    let mut free: usize = 0;
+    let mut i: usize = 0;
+    while i < end {
+        let s = run.slots[i];
+        let m = s.message;
+        if devices::is_empty(m) {
+            free += 1;
+        }
+        i += 1;
+    }
+    let e = rules::effect_of(
+        proper,
+        step,
+        message,
+        Here {
+            contents: contents,
+            tablet: tablet,
+            listed: listed,
+            free: free,
+            stopped: (run.stopped >> d) % 2 == 1,
+        },
+    );
+    let contents_after = e.contents;
+    let tablet_after = e.tablet;
+    let listed_after = e.listed;
+    let outcome = e.outcome;
+    run.slots[at] = freed(slot, e.frees);
+    run.devices[d] = contents_after;
+    run.tablets[t] = tablet_after;
+    run.listed = listed_after;
+    run.stopped = stopped_after(run.stopped, e.stops, d);
+    run.kept = devices::kept_after(outcome, run.kept);
+    let sending = e.sending;
+    let sent = sending.message;
+    let to = sending.to;
+    let mut p: usize = 0;
+    let mut q: usize = 0;
+    while (p < 128) & (q < 24) {
+        if (to >> q) % 2 == 1 {
+            let s = run.slots[p];
+            let m = s.message;
+            if devices::is_empty(m) {
+                let copy = devices::address(sent, q as u8);
+                run.slots[p] = Slot { message: copy };
+                q += 1;
+            }
+            p += 1;
+        } else {
+            q += 1;
+        }
+    }
+    Stepped {
+        outcome: outcome,
+        run: run,
+    }
+}
+
+// One step of a run.
+pub fn step(run: Run, step: Step) -> Stepped
+    ensures { λ r. ⌜ r ≡ taken step run ⌝ }
+{
+    let listed = run.listed;
+    let n = listed.count;
+    let mut proper = state::proper_desk(listed, run.devices, run.tablets);
+    let mut i: usize = 0;
+    while i < 128 {
+        let s = run.slots[i];
+        let m = s.message;
+        proper = proper & state::proper_message(n, m);
+        i += 1;
+    }
+    take(run, proper, step)
+}
