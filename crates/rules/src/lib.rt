@@ -468,11 +468,11 @@ fn rule(step: Step, m: Message, h: Here) -> Effect
 pub fn effect_of(proper: bool, step: Step, m: Message, h: Here) -> Effect
     ensures { λ r. ⌜ r ≡ effectOf proper step m h ⌝ }
 {
-    if !proper {
-        return devices::refuse_with(1, h);
+    if proper {
+        if in_range(step) {
+            return rule(step, m, h);
+        }
+        return devices::refuse_with(2, h);
     }
-    if in_range(step) {
-        return rule(step, m, h);
-    }
-    devices::refuse_with(2, h)
+    devices::refuse_with(1, h)
 }

@@ -1,0 +1,42 @@
+use mathlib.Core.Path.{sym, _∙_}
+use Rattle.rules.specs.Rules.{effectOf}
+use Rattle.rules.proofs.Cases.{chosen, passed}
+use borrow.Author.Needs.{needs}
+use Rattle.rules.proofs.effect_of.Statement.{statement}
+use Rattle.rules.proofs.effect_of.Tie as tie
+
+in-range-requires : tie.Need-in-range-requires
+in-range-requires c κs = search needs
+
+rule-requires : tie.Need-rule-requires
+rule-requires c κs = search needs
+
+returns : tie.Need-returns
+unfolding effectOf
+returns c = chosen _ _ (c .before .before .before .if1 .taken) (chosen _ _ (sym (c .before .before .in-range .ensures) ∙ (c .before .if2 .taken)) (c .rule .ensures))
+
+refuse-with-requires : tie.Need-refuse-with-requires
+refuse-with-requires c κs = search needs
+
+returns-2 : tie.Need-returns-2
+unfolding effectOf
+returns-2 c = chosen _ _ (c .before .before .before .if1 .taken) (passed _ _ (sym (c .before .before .in-range .ensures) ∙ (c .before .if2 .left)) (c .refuse-with .ensures))
+
+refuse-with-requires-2 : tie.Need-refuse-with-requires-2
+refuse-with-requires-2 c κs = search needs
+
+returns-3 : tie.Need-returns-3
+unfolding effectOf
+returns-3 c = passed _ _ (c .before .if1 .left) (c .refuse-with2 .ensures)
+
+pub effect-of-spec : {M : Type 1} → statement M
+effect-of-spec =
+    tie.close
+    (tie.spec
+    in-range-requires
+    rule-requires
+    returns
+    refuse-with-requires
+    returns-2
+    refuse-with-requires-2
+    returns-3)

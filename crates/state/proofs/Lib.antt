@@ -1,0 +1,3 @@
+pub mod SlotLaws
+pub mod StateLaws
+pub mod Cases
