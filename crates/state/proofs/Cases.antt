@@ -1,19 +1,21 @@
 -- The cases of the definitions of specs/, as equations on plain values: each return of a function cites one.
 use Prim.Native.Nat.{ℕ, _≤_, _<_}
 use mathlib.Core.Bool.{Bool, true, false}
-use mathlib.Core.Path.{_≡_, refl, sym, ap, _∙_}
+use mathlib.Core.List.{List}
+use mathlib.Core.Path.{_≡_, sym, ap, _∙_}
 use lib.ListN.{replicate}
-use lib.Dec.{ltb, leb}
-use borrow.Author.Tests.{lt-ltb, le-ltb, eq-eqb, ne-eqb, le-leb}
-use Rattle.sets.specs.Choice.{pick, both}
-use Rattle.sets.proofs.BelowLaws.{both-true, pick-true, pick-false}
-use Rattle.books.specs.declared.Notes.{Notes}
+use lib.Dec.{ltb}
+use borrow.Author.Tests.{lt-ltb, le-ltb, eq-eqb, ne-eqb}
+use Rattle.sets.specs.Choice.{both}
+use Rattle.sets.proofs.BelowLaws.{pick-true, pick-false}
 use Rattle.books.specs.declared.Book.{Book}
 use Rattle.books.specs.declared.Listed.{Listed}
 use Rattle.books.specs.Books.{noConfig, noBook}
+use Rattle.devices.specs.declared.Contents.{Contents}
+use Rattle.devices.specs.declared.Tablet.{Tablet}
 use Rattle.devices.specs.declared.Asking.{Asking}
 use Rattle.devices.specs.declared.Phase.{Phase}
-use Rattle.devices.specs.declared.Phase.the-variants.{Idle, Asks}
+use Rattle.devices.specs.declared.Phase.the-variants.{Asks}
 use Rattle.devices.specs.declared.Letter.{Letter}
 use Rattle.devices.specs.declared.Notice.{Notice}
 use Rattle.devices.specs.declared.Message.{Message}
@@ -21,8 +23,9 @@ use Rattle.devices.specs.declared.Message.the-variants.{Empty, Request, Answer,
 use Rattle.devices.specs.declared.Outcome.the-variants.{Done, Refused}
 use Rattle.devices.specs.Contents.{freshTablet}
 use Rattle.state.specs.declared.Run.{Run}
-use Rattle.state.specs.Slots.{emptySlot}
-use Rattle.state.specs.State.{fresh, started, namesListed, properPhase, properMessage, properUpTo, properLetter, isTablet, isBox}
+use Rattle.state.specs.Slots.{emptySlot, all}
+use Rattle.state.specs.State.{fresh, started, namesListed, allDifferent, properContents, properPhase, properTablet, properLetter, properMessage, properUpTo, properDesk, isTablet, isBox}
+use Rattle.state.proofs.StateLaws.{desk-up-to}
 
 -- ---- The start
 
@@ -76,3 +79,10 @@ module _ (n : ℕ) (h : n ≤ 6) where
 
   pub message-commit : {m : Message} {c : Notice} → m ≡ Commit c → both (isTablet (c .from)) (ltb (c .to) 24) ≡ properUpTo n m
   message-commit {c = c} p = up-to (Commit c) ∙ ap (properUpTo n) (sym p)
+
+-- ---- Everything but the slots
+
+pub desk-is : (listed : Listed) (devices : List Contents) (tablets : List Tablet) {changes contents rounds : Bool} → listed .count ≤ 6
+    → changes ≡ allDifferent listed → contents ≡ all (properContents (listed .count)) devices
+    → rounds ≡ all (properTablet (listed .count)) tablets → both (both changes contents) rounds ≡ properDesk listed devices tablets
+desk-is listed devices tablets h p q s = rw (p, q, s) (desk-up-to listed devices tablets h)

@@ -4,14 +4,14 @@
 use Prim.Native.Nat.{ℕ, zero, suc, _+_, _≤_, _<_}
 use mathlib.Core.Bool.{Bool, true, false, not}
 use mathlib.Core.List.{List, [], _∷_, _++_, append-nil}
-use mathlib.Core.Path.{_≡_, refl, sym, ap, _∙_}
+use mathlib.Core.Path.{_≡_, refl, sym, ap, ap₂, _∙_}
 use mathlib.Core.Logic.{_⊎_, inl, inr, ⊎-elim}
 use native.Mathlib.Nat.{lt-irrefl}
 use native.Mathlib.Numerals.{add-one}
 use native.Mathlib.Omega.{arith}
 use lib.ListN.{getD, take, drop, set, length, replicate, drop-of-length-le, take-append-drop}
-use borrow.Author.Tests.{not-true}
 use lib.Seq.{drop-cons, take-all, take-suc, take-suc-set, drop-set-lt, append-snoc}
+use borrow.Author.Tests.{not-true}
 use Rattle.sets.specs.Choice.{pick, both}
 use Rattle.sets.proofs.BelowLaws.{both-left, both-right, both-on, both-yes, both-assoc}
 use Rattle.devices.specs.declared.Message.{Message}
@@ -83,6 +83,12 @@ all-weaker p q [] h e = refl
 all-weaker p q (x ∷ xs) h e =
     both-on (q x) (all q xs) (h x (both-left (p x) (all p xs) e)) (all-weaker p q xs h (both-right (p x) (all p xs) e))
 
+-- two tests that agree on every element
+pub all-same : {A : Type 0} (p q : A → Bool) (xs : List A) → ((x : A) → p x ≡ q x) → all p xs ≡ all q xs
+unfolding all
+all-same p q [] h = refl
+all-same p q (x ∷ xs) h = ap₂ both (h x) (all-same p q xs h)
+
 -- ---- Of how many
 
 module _ {A : Type 0} (p : A → Bool) (x : A) (xs : List A) where
@@ -131,8 +137,9 @@ module _ {A : Type 0} (p : A → Bool) where
 
 -- ---- Laying messages
 
-abbrev pub slotOf : Message → Slot
-slotOf m = record { message = m }
+-- the slot with a message in it
+abbrev pub holding : Message → Slot
+holding m = record { message = m }
 
 pub laid-none : (slots : List Slot) → laid [] slots ≡ slots
 unfolding laid
@@ -145,16 +152,16 @@ laid-nowhere (m ∷ ms) = refl
 
 module _ (m : Message) (ms : List Message) (s : Slot) (slots : List Slot) where
   -- a free slot takes the next message, a filled one none
-  pub laid-free : isFree s ≡ true → laid (m ∷ ms) (s ∷ slots) ≡ slotOf m ∷ laid ms slots
+  pub laid-free : isFree s ≡ true → laid (m ∷ ms) (s ∷ slots) ≡ holding m ∷ laid ms slots
   unfolding laid
-  laid-free e = ap (λ (t : Bool). pick t (slotOf m ∷ laid ms slots) (s ∷ laid (m ∷ ms) slots)) e
+  laid-free e = ap (λ (t : Bool). pick t (holding m ∷ laid ms slots) (s ∷ laid (m ∷ ms) slots)) e
 
   pub laid-filled : isFree s ≡ false → laid (m ∷ ms) (s ∷ slots) ≡ s ∷ laid (m ∷ ms) slots
   unfolding laid
-  laid-filled e = ap (λ (t : Bool). pick t (slotOf m ∷ laid ms slots) (s ∷ laid (m ∷ ms) slots)) e
+  laid-filled e = ap (λ (t : Bool). pick t (holding m ∷ laid ms slots) (s ∷ laid (m ∷ ms) slots)) e
 
   -- what is shown of both is shown of the table
-  laid-either : (P : List Slot → Type 0) → (isFree s ≡ true → P (slotOf m ∷ laid ms slots))
+  laid-either : (P : List Slot → Type 0) → (isFree s ≡ true → P (holding m ∷ laid ms slots))
       → (isFree s ≡ false → P (s ∷ laid (m ∷ ms) slots)) → P (laid (m ∷ ms) (s ∷ slots))
   laid-either P free filled = go (isFree s) refl
     where
@@ -183,7 +190,7 @@ laid-keeps (m ∷ ms) (s ∷ slots) (suc i) h =
 pub record OneOf (ms : List Message) (slot : Slot) : Type 0 where
   pub which : ℕ
   pub below : which < length ms
-  pub same : slot ≡ slotOf (getD ms which Empty)
+  pub same : slot ≡ holding (getD ms which Empty)
 
 one-of-more : (m : Message) {ms : List Message} {slot : Slot} → OneOf ms slot → OneOf (m ∷ ms) slot
 one-of-more m o = record { which = suc (o .which); below = omega (arith, o .below); same = o .same }
@@ -205,12 +212,12 @@ laid-at (m ∷ ms) (s ∷ slots) (suc i) =
 
 -- a test that all slots and all messages pass is passed by all slots after
 pub laid-all : (p : Slot → Bool) (ms : List Message) (slots : List Slot) → all p slots ≡ true
-    → all (λ (m : Message). p (slotOf m)) ms ≡ true → all p (laid ms slots) ≡ true
+    → all (λ (m : Message). p (holding m)) ms ≡ true → all p (laid ms slots) ≡ true
 laid-all p ms slots h k =
     at-all p emptySlot (laid ms slots)
     (λ i l.
     ⊎-elim (λ q. ap p q ∙ all-at p emptySlot slots i h (omega (arith, length-laid ms slots)))
-    (λ o. ap p (o .same) ∙ all-at (λ (m : Message). p (slotOf m)) Empty ms (o .which) k (o .below))
+    (λ o. ap p (o .same) ∙ all-at (λ (m : Message). p (holding m)) Empty ms (o .which) k (o .below))
     (laid-at ms slots i))
 
 -- where there are free slots enough, every message takes one
@@ -225,7 +232,7 @@ laid-count (m ∷ ms) (s ∷ slots) f h =
     laid-either m ms s slots (λ (r : List Slot). many isFree r + suc (length ms) ≡ many isFree (s ∷ slots))
     (λ e.
     let y = many-yes isFree s slots e in
-    omega (arith, many-no isFree (slotOf m) (laid ms slots) filled, laid-count ms slots others (omega arith)))
+    omega (arith, many-no isFree (holding m) (laid ms slots) filled, laid-count ms slots others (omega arith)))
     (λ e.
     let n = many-no isFree s slots e in
     omega (arith, many-no isFree s (laid (m ∷ ms) slots) e, laid-count (m ∷ ms) slots f (omega arith)))
@@ -243,7 +250,7 @@ pub laid-from-end : (i : ℕ) (ms : List Message) (slots : List Slot) → length
 laid-from-end i ms slots h = rw (drop-of-length-le slots h, laid-nowhere ms, take-all i slots h) (append-nil slots)
 
 module _ (m : Message) (ms : List Message) (slots : List Slot) (i : ℕ) (h : i < length slots) where
-  pub laid-here : isFree (getD slots i emptySlot) ≡ true → laid (m ∷ ms) (drop i slots) ≡ slotOf m ∷ laid ms (drop (i + 1) slots)
+  pub laid-here : isFree (getD slots i emptySlot) ≡ true → laid (m ∷ ms) (drop i slots) ≡ holding m ∷ laid ms (drop (i + 1) slots)
   laid-here e = rw (add-one i, drop-cons slots i emptySlot h) (laid-free m ms (getD slots i emptySlot) (drop (suc i) slots) e)
 
   pub laid-past : isFree (getD slots i emptySlot) ≡ false
@@ -251,10 +258,10 @@ module _ (m : Message) (ms : List Message) (slots : List Slot) (i : ℕ) (h : i 
   laid-past e = rw (add-one i, drop-cons slots i emptySlot h) (laid-filled m ms (getD slots i emptySlot) (drop (suc i) slots) e)
 
   -- the next message is stored in a free slot
-  pub laid-store : isFree (getD slots i emptySlot) ≡ true → laidFrom (i + 1) ms (set slots i (slotOf m)) ≡ laidFrom i (m ∷ ms) slots
+  pub laid-store : isFree (getD slots i emptySlot) ≡ true → laidFrom (i + 1) ms (set slots i (holding m)) ≡ laidFrom i (m ∷ ms) slots
   laid-store e =
-      rw (laid-here e, add-one i, take-suc-set slots i (slotOf m) h, drop-set-lt (suc i) slots i (slotOf m) (omega arith))
-      (append-snoc (take i slots) (slotOf m) (laid ms (drop (suc i) slots)))
+      rw (laid-here e, add-one i, take-suc-set slots i (holding m) h, drop-set-lt (suc i) slots i (holding m) (omega arith))
+      (append-snoc (take i slots) (holding m) (laid ms (drop (suc i) slots)))
 
   -- a filled slot is passed by
   pub laid-pass : isFree (getD slots i emptySlot) ≡ false → laidFrom (i + 1) (m ∷ ms) slots ≡ laidFrom i (m ∷ ms) slots

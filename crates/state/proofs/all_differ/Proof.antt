@@ -1,38 +1,43 @@
+use Prim.Native.Nat.{_≤_, _-_}
+use mathlib.Core.Path.{_≡_, ap}
+use native.Mathlib.Omega.{arith}
+use Rattle.sets.specs.Choice.{both}
+use Rattle.sets.specs.Below.{each}
+use Rattle.sets.proofs.BelowLaws.{each-zero, each-on}
+use Rattle.state.specs.State.{allDifferent}
+use Rattle.state.proofs.StateLaws.{isNew}
 use Rattle.state.proofs.all_differ.Statement.{statement}
 use Rattle.state.proofs.all_differ.Tie as tie
-use Rattle.state.proofs.all_differ.Reads as reads
-use Rattle.state.proofs.all_differ.Lts as lts
-use Rattle.state.proofs.differs.Reads as differs-reads
 
 abbrev Inv-loop : tie.InvT-loop
-Inv-loop listed n ok₀ i₀ ok i = ?
+Inv-loop listed n ok₀ i₀ ok i = (i ≤ n) × (ok ≡ each i (isNew listed))
 
 abbrev μ-loop : tie.MeasureT-loop
-μ-loop listed n ok₀ i₀ ok i = ?
+μ-loop listed n ok₀ i₀ ok i = n - i
 
--- src/lib.rt:133:5
 loop-holds : tie.Need-loop-holds Inv-loop μ-loop
-loop-holds c = ?
+loop-holds c = (omega arith, each-zero _)
 
--- src/lib.rt:134:19
 differs-requires : tie.Need-differs-requires Inv-loop μ-loop
-differs-requires c κs = ?
+differs-requires c κs = omega arith
 
--- src/lib.rt:135:9
 add-i : tie.Need-add-i Inv-loop μ-loop
-add-i c = ?
+add-i c = omega arith
 
--- src/lib.rt:133:5
 loop-less : tie.Need-loop-less Inv-loop μ-loop
-loop-less c = ?
+loop-less c = omega arith
 
--- src/lib.rt:133:5
 loop-again : tie.Need-loop-again Inv-loop μ-loop
-loop-again c = ?
+loop-again c =
+    let l = c .before .before .loop in
+    (omega arith, each-on (isNew (c .before .before .before .args .listed)) (l .i) (l .inv .1) (ap (both (l .ok)) (c .differs .ensures)))
 
--- src/lib.rt:126:1
 returns : tie.Need-returns Inv-loop μ-loop
-returns c = ?
+unfolding allDifferent
+returns c =
+    let l = c .before .loop in
+    let e : l .i ≡ c .before .before .args .listed .count = omega arith in
+    rw e at (l .inv .1)
 
 pub all-differ-spec : {M : Type 1} → statement M
 all-differ-spec =

@@ -1,16 +1,14 @@
 use Prim.Native.Nat.{_≤_, _-_}
-use mathlib.Core.Bool.{not}
-use mathlib.Core.Path.{_≡_, refl}
+use mathlib.Core.Bool.{Bool, not}
+use mathlib.Core.Path.{_≡_, ap}
 use native.Mathlib.Omega.{arith}
 use lib.ListN.{getD}
+use Rattle.sets.specs.Choice.{both}
 use Rattle.sets.specs.Below.{each}
 use Rattle.sets.proofs.BelowLaws.{each-zero, each-on}
 use Rattle.books.specs.Books.{noConfig, sameConfig}
 use Rattle.state.proofs.differs.Statement.{statement}
 use Rattle.state.proofs.differs.Tie as tie
-use Rattle.state.proofs.differs.Reads as reads
-use Rattle.state.proofs.differs.Lts as lts
-use Rattle.books.proofs.same_config.Reads as same-config-reads
 
 abbrev Inv-loop : tie.InvT-loop
 Inv-loop later changes b ok₀ i₀ ok i = (i ≤ later) × (ok ≡ each i (λ earlier. not (sameConfig (getD changes earlier noConfig) b)))
@@ -18,45 +16,40 @@ Inv-loop later changes b ok₀ i₀ ok i = (i ≤ later) × (ok ≡ each i (λ e
 abbrev μ-loop : tie.MeasureT-loop
 μ-loop later changes b ok₀ i₀ ok i = later - i
 
--- src/lib.rt:114:13
 mul-b : tie.Need-mul-b Inv-loop μ-loop
 mul-b c = omega arith
 
--- src/lib.rt:114:13
 array-copy-out-b : tie.Need-array-copy-out-b Inv-loop μ-loop
 array-copy-out-b c = omega arith
 
--- src/lib.rt:117:5
 loop-holds : tie.Need-loop-holds Inv-loop μ-loop
-loop-holds c = ?
+loop-holds c = (omega arith, each-zero _)
 
--- src/lib.rt:118:17
 mul-a : tie.Need-mul-a Inv-loop μ-loop
 mul-a c = omega arith
 
--- src/lib.rt:118:17
 array-copy-out-a : tie.Need-array-copy-out-a Inv-loop μ-loop
 array-copy-out-a c = omega arith
 
--- src/lib.rt:119:20
 same-config-requires : tie.Need-same-config-requires Inv-loop μ-loop
 same-config-requires c κs = tt
 
--- src/lib.rt:120:9
 add-i : tie.Need-add-i Inv-loop μ-loop
 add-i c = omega arith
 
--- src/lib.rt:117:5
 loop-less : tie.Need-loop-less Inv-loop μ-loop
 loop-less c = omega arith
 
--- src/lib.rt:117:5
 loop-again : tie.Need-loop-again Inv-loop μ-loop
-loop-again c = ?
+loop-again c =
+    let l = c .before .before .before .loop in
+    (omega arith, each-on _ (l .i) (l .inv .1) (ap (λ (same : Bool). both (l .ok) (not same)) (c .same-config .ensures)))
 
--- src/lib.rt:109:1
 returns : tie.Need-returns Inv-loop μ-loop
-returns c = ?
+returns c =
+    let l = c .before .loop in
+    let e : l .i ≡ c .before .before .before .before .args .later = omega arith in
+    rw e at (l .inv .1)
 
 pub differs-spec : {M : Type 1} → statement M
 differs-spec =

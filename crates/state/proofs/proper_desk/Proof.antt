@@ -1,31 +1,25 @@
 use borrow.Author.Needs.{needs}
+use Rattle.state.proofs.StateLaws.{desk-over}
+use Rattle.state.proofs.Cases.{desk-is}
 use Rattle.state.proofs.proper_desk.Statement.{statement}
 use Rattle.state.proofs.proper_desk.Tie as tie
-use Rattle.state.proofs.proper_desk.Reads as reads
-use Rattle.state.proofs.proper_desk.Lts as lts
-use Rattle.state.proofs.all_differ.Reads as all-differ-reads
-use Rattle.state.proofs.proper_devices.Reads as proper-devices-reads
-use Rattle.state.proofs.proper_tablets.Reads as proper-tablets-reads
 
--- src/lib.rt:185:9
 returns : tie.Need-returns
-returns c = ?
+returns c = desk-over _ _ _ (c .if1 .taken)
 
--- src/lib.rt:187:5
 all-differ-requires : tie.Need-all-differ-requires
 all-differ-requires c κs = search needs
 
--- src/lib.rt:187:26
 proper-devices-requires : tie.Need-proper-devices-requires
 proper-devices-requires c κs = search needs
 
--- src/lib.rt:187:55
 proper-tablets-requires : tie.Need-proper-tablets-requires
 proper-tablets-requires c κs = search needs
 
--- src/lib.rt:180:1
 returns-2 : tie.Need-returns-2
-returns-2 c = ?
+returns-2 c =
+    desk-is _ _ _ (c .before .before .before .if1 .left) (c .before .before .all-differ .ensures) (c .before .proper-devices .ensures)
+    (c .proper-tablets .ensures)
 
 pub proper-desk-spec : {M : Type 1} → statement M
 proper-desk-spec =

@@ -4,15 +4,10 @@ use Rattle.sets.specs.Choice.{both}
 use borrow.Author.Needs.{needs}
 use Rattle.state.proofs.proper_letter.Statement.{statement}
 use Rattle.state.proofs.proper_letter.Tie as tie
-use Rattle.state.proofs.proper_letter.Reads as reads
-use Rattle.state.proofs.proper_letter.Lts as lts
-use Rattle.state.proofs.names_listed.Reads as names-listed-reads
 
--- src/lib.rt:200:25
 names-listed-requires : tie.Need-names-listed-requires
 names-listed-requires c κs = search needs
 
--- src/lib.rt:196:1
 returns : tie.Need-returns
 returns c = ap (both (leb (c .before .before .args .l .round) 1023)) (c .names-listed .ensures)
 

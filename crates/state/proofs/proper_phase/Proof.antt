@@ -2,27 +2,19 @@ use Rattle.state.proofs.Cases.{phase-asks}
 use borrow.Author.Needs.{needs}
 use Rattle.state.proofs.proper_phase.Statement.{statement}
 use Rattle.state.proofs.proper_phase.Tie as tie
-use Rattle.state.proofs.proper_phase.Reads as reads
-use Rattle.state.proofs.proper_phase.Lts as lts
-use Rattle.state.proofs.names_listed.Reads as names-listed-reads
 
--- src/lib.rt:159:24
 enum-told : tie.Need-enum-told
 enum-told c = search needs
 
--- src/lib.rt:160:21
 enum-known-phase : tie.Need-enum-known-phase
 enum-known-phase c = search needs
 
--- src/lib.rt:160:27
 names-listed-requires : tie.Need-names-listed-requires
 names-listed-requires c κs = search needs
 
--- src/lib.rt:154:1
 returns : tie.Need-returns
 returns c = search needs
 
--- src/lib.rt:154:1
 returns-2 : tie.Need-returns-2
 returns-2 c = phase-asks _ (c .before .before .phase .given .1) (c .names-listed .ensures)
 

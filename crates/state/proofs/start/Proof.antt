@@ -2,19 +2,13 @@ use Rattle.state.proofs.Cases.{started-none, started-done}
 use borrow.Author.Needs.{needs}
 use Rattle.state.proofs.start.Statement.{statement}
 use Rattle.state.proofs.start.Tie as tie
-use Rattle.state.proofs.start.Reads as reads
-use Rattle.state.proofs.start.Lts as lts
-use Rattle.state.proofs.fresh_run.Reads as fresh-run-reads
 
--- src/lib.rt:87:9
 fresh-run-requires : tie.Need-fresh-run-requires
 fresh-run-requires c κs = search needs
 
--- src/lib.rt:89:9
 returns : tie.Need-returns
 returns c = started-none _ (c .if1 .taken) (c .before .fresh-run .ensures)
 
--- src/lib.rt:84:1
 returns-2 : tie.Need-returns-2
 returns-2 c = started-done _ (c .if1 .left) (c .before .fresh-run .ensures)
 
