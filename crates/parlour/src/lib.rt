@@ -1,19 +1,22 @@
 // One step of a run at a time, and the question whether a box may be unplugged. Every call takes any state and any numbers.
-use books::Book;
 use books::Config;
+use books::Listed;
+use devices::Contents;
 use devices::Here;
 use devices::Message;
-use devices::Outcome;
 use devices::Step;
+use devices::Tablet;
 use state::Run;
 use state::Slot;
 use state::Stepped;
+ghost use mathlib.Core.Bool.{true};
 ghost use mathlib.Core.Path.{_≡_};
 ghost use Prim.Native.Nat.{_<_, _≤_, _^_};
 ghost use Rattle.sets.specs.Choice.{pick};
 ghost use Rattle.sets.specs.Sets.{has, union};
 ghost use Rattle.devices.specs.declared.Step.{Step};
 ghost use Rattle.state.specs.Slots.{emptySlot};
+ghost use Rattle.state.specs.State.{properDesk, proper};
 ghost use Rattle.parlour.specs.Steps.{within, slotOf, deviceOf, taken, takenIf, mayUnplug};
 ghost use Rattle.parlour.specs.Working.{countsFree};
 
@@ -81,7 +84,11 @@ fn counted(step: Step) -> usize
     ensures { λ r. ⌜ r ≡ pick (countsFree step) 128 0 ⌝ }
 {
     match step {
-        Step::Ask { tablet: _, notes: _, pair: _ } => 128,
+        Step::Ask {
+            tablet: _,
+            notes: _,
+            pair: _,
+        } => 128,
         Step::Advance(_) => 128,
         Step::Deliver(_) => 0,
         Step::Lose(_) => 0,
@@ -111,10 +118,39 @@ fn stopped_after(stopped: u32, stops: bool, d: usize) -> u32
     if stops { stopped | (1 << d) } else { stopped }
 }
 
-// One step of a run, told whether its state is one: the rule sees the acting device's parts, and its effect is stored and its messages are laid.
-fn take(mut run: Run, proper: bool, step: Step) -> Stepped
-    ensures { λ r. ⌜ r ≡ takenIf proper step run ⌝ }
+// Whether everything but the slots is proper, or is known to be.
+fn desk_proper(known: bool, listed: Listed, devices: [Contents; 24], tablets: [Tablet; 8]) -> bool
+    ensures { λ r. ⌜ r ≡ pick known true (properDesk listed devices tablets) ⌝ }
 {
+    if known {
+        return true;
+    }
+    state::proper_desk(listed, devices, tablets)
+}
+
+// How many slots are looked through for an improper message: none of a state that is known to be proper.
+fn scanned(known: bool) -> usize
+    ensures { λ r. ⌜ r ≡ pick known 0 128 ⌝ }
+{
+    if known { 0 } else { 128 }
+}
+
+// One step. The rule sees the acting device's parts, its effect is stored, and its messages are laid in one pass.
+// A refusal gives the parts as they came, so that storing them changes nothing. A state known to be proper is not scanned again.
+fn take(mut run: Run, known: bool, step: Step) -> Stepped
+    ensures { λ r. ⌜ r ≡ takenIf (pick known true (proper run)) step run ⌝ }
+{
+    let listed = run.listed;
+    let n = listed.count;
+    let mut ok = desk_proper(known, listed, run.devices, run.tablets);
+    let all = scanned(known);
+    let mut z: usize = 0;
+    while z < all {
+        let s = run.slots[z];
+        let m = s.message;
+        ok = ok & state::proper_message(n, m);
+        z += 1;
+    }
     let at = slot_of(step);
     let slot = run.slots[at];
     let message = slot.message;
@@ -122,7 +158,6 @@ fn take(mut run: Run, proper: bool, step: Step) -> Stepped
     let t = tablet_of(d);
     let contents = run.devices[d];
     let tablet = run.tablets[t];
-    let listed = run.listed;
     let end = counted(step);
     let mut free: usize = 0;
     let mut i: usize = 0;
@@ -135,7 +170,7 @@ fn take(mut run: Run, proper: bool, step: Step) -> Stepped
         i += 1;
     }
     let e = rules::effect_of(
-        proper,
+        ok,
         step,
         message,
         Here {
@@ -185,15 +220,78 @@ fn take(mut run: Run, proper: bool, step: Step) -> Stepped
 pub fn step(run: Run, step: Step) -> Stepped
     ensures { λ r. ⌜ r ≡ taken step run ⌝ }
 {
-    let listed = run.listed;
-    let n = listed.count;
-    let mut proper = state::proper_desk(listed, run.devices, run.tablets);
-    let mut i: usize = 0;
-    while i < 128 {
-        let s = run.slots[i];
-        let m = s.message;
-        proper = proper & state::proper_message(n, m);
-        i += 1;
+    take(run, false, step)
+}
+
+pub fn ask(run: Run, tablet: u8, notes: u8, added: u16, removed: u16) -> Stepped
+    ensures { λ r. ⌜ r ≡ taken (Step.Ask tablet notes (record { added = added; removed = removed })) run ⌝ }
+{
+    take(
+        run,
+        false,
+        Step::Ask {
+            tablet: tablet,
+            notes: notes,
+            pair: Config {
+                added: added,
+                removed: removed,
+            },
+        },
+    )
+}
+
+pub fn advance(run: Run, tablet: u8) -> Stepped
+    ensures { λ r. ⌜ r ≡ taken (Step.Advance tablet) run ⌝ }
+{
+    take(run, false, Step::Advance(tablet))
+}
+
+pub fn deliver(run: Run, slot: u8) -> Stepped
+    ensures { λ r. ⌜ r ≡ taken (Step.Deliver slot) run ⌝ }
+{
+    take(run, false, Step::Deliver(slot))
+}
+
+pub fn lose(run: Run, slot: u8) -> Stepped
+    ensures { λ r. ⌜ r ≡ taken (Step.Lose slot) run ⌝ }
+{
+    take(run, false, Step::Lose(slot))
+}
+
+pub fn repeat(run: Run, slot: u8) -> Stepped
+    ensures { λ r. ⌜ r ≡ taken (Step.Repeat slot) run ⌝ }
+{
+    take(run, false, Step::Repeat(slot))
+}
+
+pub fn stop(run: Run, device: u8) -> Stepped
+    ensures { λ r. ⌜ r ≡ taken (Step.Stop device) run ⌝ }
+{
+    take(run, false, Step::Stop(device))
+}
+
+// Whether a state is one: a step that no state takes is refused by 1 only where the state is none, else by 2.
+fn is_proper(run: Run) -> bool
+    ensures { λ r. ⌜ r ≡ proper run ⌝ }
+{
+    let s = take(run, false, Step::Stop(24));
+    let outcome = s.outcome;
+    devices::number_of(outcome) == 2
+}
+
+// Whether a box may be unplugged: exactly where it is in the removed set of the kept join.
+pub fn may_unplug(run: Run, number: u8) -> Unplug
+    ensures { λ r. ⌜ r ≡ mayUnplug run number ⌝ }
+{
+    let kept = run.kept;
+    if is_proper(run) {
+        if 15 < number {
+            return Unplug::Unanswered(2);
+        }
+        if (kept.config.removed >> number) % 2 == 1 {
+            return Unplug::May;
+        }
+        return Unplug::MayNot;
     }
-    take(run, proper, step)
+    Unplug::Unanswered(1)
 }

@@ -1,0 +1,32 @@
+-- Which slot, device and tablet a step is about, and what one store leaves: the cases of the small functions.
+use Prim.Native.Nat.{ℕ, _+_, _*_, _%_, _^_, _≤_, _<_}
+use mathlib.Core.Bool.{Bool, true, false}
+use mathlib.Core.Path.{_≡_, refl, sym, ap, _∙_}
+use native.Mathlib.Omega.{arith}
+use lib.Pow.{shl-exact}
+use borrow.Author.Tests.{lt-ltb, le-ltb}
+use Rattle.sets.specs.Choice.{pick}
+use Rattle.sets.specs.Sets.{union}
+use Rattle.sets.proofs.BelowLaws.{pick-true, pick-false}
+use Rattle.devices.specs.declared.Message.{Message}
+use Rattle.devices.specs.declared.Step.{Step}
+use Rattle.parlour.specs.Steps.{within, slotOf, deviceOf}
+
+pub within-in : (bound n : ℕ) → n < bound → n ≡ within bound n
+within-in bound n h = pick-true n 0 (lt-ltb n bound h)
+
+pub within-out : (bound n : ℕ) → bound ≤ n → 0 ≡ within bound n
+within-out bound n h = pick-false n 0 (le-ltb n bound h)
+
+-- what holds of a step that was met
+pub slot-as : {s t : Step} {i : ℕ} → s ≡ t → i ≡ slotOf t → i ≡ slotOf s
+slot-as p q = q ∙ ap slotOf (sym p)
+
+pub device-as : (m : Message) {s t : Step} {d : ℕ} → s ≡ t → d ≡ deviceOf t m → d ≡ deviceOf s m
+device-as m p q = q ∙ ap (λ (x : Step). deviceOf x m) (sym p)
+
+-- a device is stopped by a union
+pub stopped-one : (stopped d : ℕ) → d < 24 → union stopped (1 * 2 ^ d % 4294967296) ≡ union stopped (2 ^ d)
+stopped-one stopped d h =
+    let e : 1 * 2 ^ d ≡ 2 ^ d = omega arith in
+    ap (union stopped) (shl-exact 1 d 32 (omega arith) (omega arith) ∙ e)

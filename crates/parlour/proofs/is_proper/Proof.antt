@@ -1,0 +1,23 @@
+use mathlib.Core.Path.{ap, _∙_}
+use lib.Dec.{eqb}
+use Prim.Native.Nat.{ℕ}
+use Rattle.state.specs.declared.Stepped.{Stepped}
+use Rattle.state.specs.State.{proper}
+use Rattle.devices.specs.Effects.{numberOf}
+use Rattle.devices.specs.declared.Outcome.{Outcome}
+use Rattle.parlour.proofs.Taking.{stop-24}
+use borrow.Author.Needs.{needs}
+use Rattle.parlour.proofs.is_proper.Statement.{statement}
+use Rattle.parlour.proofs.is_proper.Tie as tie
+
+take-requires : tie.Need-take-requires
+take-requires c κs = search needs
+
+number-of-requires : tie.Need-number-of-requires
+number-of-requires c κs = search needs
+
+returns : tie.Need-returns
+returns c = ap (λ (n : ℕ). eqb n 2) ((c .number-of .ensures) ∙ ap (λ (s : Stepped). numberOf (s .outcome)) (c .before .take .ensures)) ∙ stop-24 (proper (c .before .before .args .run)) (c .before .before .args .run)
+
+pub is-proper-spec : {M : Type 1} → statement M
+is-proper-spec = tie.close (tie.spec take-requires number-of-requires returns)

@@ -1,0 +1,14 @@
+use Rattle.parlour.specs.Steps.{taken}
+use borrow.Author.Needs.{needs}
+use Rattle.parlour.proofs.lose.Statement.{statement}
+use Rattle.parlour.proofs.lose.Tie as tie
+
+take-requires : tie.Need-take-requires
+take-requires c κs = search needs
+
+returns : tie.Need-returns
+unfolding taken
+returns c = (c .take .ensures)
+
+pub lose-spec : {M : Type 1} → statement M
+lose-spec = tie.close (tie.spec take-requires returns)
