@@ -1,0 +1,108 @@
+/* Damaged tapes: a sound tape with one fault of a kind that the check must see,
+   or that turns it into another tape. */
+#include "random.h"
+
+#include <string.h>
+
+static size_t random_bytes(Dice *dice, uint8_t *tape, size_t length)
+{
+    for (size_t i = 0; i < length; i++)
+        tape[i] = (uint8_t)roll(dice);
+    return length;
+}
+
+static size_t flip_bits(Dice *dice, uint8_t *tape, size_t length)
+{
+    for (unsigned times = 1 + below(dice, 4); times > 0; times--) {
+        unsigned place = below(dice, (unsigned)length);
+        tape[place] ^= (uint8_t)(1u << below(dice, 8));
+    }
+    return length;
+}
+
+static size_t append_bytes(Dice *dice, uint8_t *tape, size_t length)
+{
+    size_t more = 1 + below(dice, 3);
+    memset(tape + length, chance(dice, 50) ? 0 : (int)below(dice, 256), more);
+    return length + more;
+}
+
+/* The bit position of the tape's step `which`, header included. */
+static size_t position_of(const uint64_t *row, size_t which)
+{
+    size_t at = 8 * HEADER_BYTES;
+    for (size_t i = 0; i < which; i++)
+        at += bits_of_step(step_of_word(row[i]).kind);
+    return at;
+}
+
+static void set_bits(uint8_t *tape, size_t at, unsigned width, unsigned value)
+{
+    for (unsigned i = 0; i < width; i++) {
+        uint8_t weight = (uint8_t)(0x80 >> (at + i) % 8);
+        if (value >> (width - 1 - i) & 1)
+            tape[(at + i) / 8] |= weight;
+        else
+            tape[(at + i) / 8] &= (uint8_t)~weight;
+    }
+}
+
+/* Kind 6, an early end mark, or Stop of a device 24 to 31, in place of a step. */
+static size_t spoil_a_step(Dice *dice, uint8_t *tape, size_t length)
+{
+    static uint64_t row[TAPE_STEPS];
+    uint16_t first = 0;
+    size_t steps = 0;
+    read_tape(tape, length, row, TAPE_STEPS, &first, &steps);
+    size_t at = position_of(row, below(dice, (unsigned)steps + 1));
+    unsigned fault = below(dice, 3);
+    if (fault == 0 || at + 8 > 8 * length)
+        set_bits(tape, at, 3, 6);
+    else if (fault == 1)
+        set_bits(tape, at, 3, 7);
+    else
+        set_bits(tape, at, 8, 5u << 5 | (24 + below(dice, 8)));
+    return length;
+}
+
+/* Sets the last bit of the tape, which most often lies behind the end mark. */
+static size_t set_last_bit(Dice *dice, uint8_t *tape, size_t length)
+{
+    tape[length - 1] |= (uint8_t)(1u << below(dice, 3));
+    return length;
+}
+
+static size_t make_too_long(Dice *dice, uint8_t *tape, size_t length)
+{
+    size_t longer = TAPE_BYTES - 1 + below(dice, 4);
+    if (longer <= length)
+        return length;
+    random_bytes(dice, tape + length, longer - length);
+    return longer;
+}
+
+size_t make_damaged_tape(Dice *dice, uint8_t tape[DAMAGED_ROOM])
+{
+    size_t length = make_sound_tape(dice, tape);
+    switch (below(dice, 10)) {
+    case 0:
+        return below(dice, 4);
+    case 1:
+        return random_bytes(dice, tape, below(dice, 200));
+    case 2:
+        tape[0] = tape[1] = 0;
+        return length;
+    case 3:
+        return below(dice, (unsigned)length + 1);
+    case 4:
+        return append_bytes(dice, tape, length);
+    case 5:
+        return set_last_bit(dice, tape, length);
+    case 6:
+        return make_too_long(dice, tape, length);
+    case 7:
+        return flip_bits(dice, tape, length);
+    default:
+        return spoil_a_step(dice, tape, length);
+    }
+}

@@ -1,0 +1,109 @@
+/* The command line of the second program. */
+#include "play.h"
+#include "random.h"
+
+#include <stdlib.h>
+#include <string.h>
+
+static const char usage[] =
+    "second play [ROUND]                  plays the tape on standard input\n"
+    "second trace                         the same, with the messages after each step\n"
+    "second check                         prints the check's number\n"
+    "second majority ADDED REMOVED ANSWERED   (hex) prints 1 or 0\n"
+    "second assemble                      text form on standard input to a tape\n"
+    "second list                          tape on standard input to its text form\n"
+    "second random SEED COUNT DIR [sound|damaged]   writes DIR/NNNN.tape\n"
+    "second long SEED                     a long sound tape, for measuring\n"
+    "second stats DIR                     plays DIR/NNNN.tape and counts\n"
+    "second bench play|play-unscanned|check|read FILE REPEATS\n";
+
+static uint8_t input[INPUT_ROOM];
+
+static int write_random_tapes(uint64_t seed, unsigned long tapes, const char *directory, bool sound)
+{
+    static uint8_t tape[DAMAGED_ROOM];
+    char name[1024];
+    for (unsigned long i = 0; i < tapes; i++) {
+        Dice dice = { seed * UINT64_C(1000003) + i };
+        size_t length = sound ? make_sound_tape(&dice, tape) : make_damaged_tape(&dice, tape);
+        snprintf(name, sizeof name, "%s/%04lu.tape", directory, i);
+        FILE *file = fopen(name, "wb");
+        if (file == NULL || fwrite(tape, 1, length, file) != length || fclose(file) != 0) {
+            fprintf(stderr, "cannot write %s\n", name);
+            return STATUS_FILE;
+        }
+    }
+    return STATUS_OK;
+}
+
+static int print_assembled(void)
+{
+    size_t length = 0;
+    unsigned line = assemble(stdin, input, sizeof input, &length);
+    if (line != 0) {
+        fprintf(stderr, "line %u is no line of a tape\n", line);
+        return STATUS_FILE;
+    }
+    return fwrite(input, 1, length, stdout) == length ? STATUS_OK : STATUS_FILE;
+}
+
+static int print_list(void)
+{
+    static uint64_t row[TAPE_STEPS];
+    uint16_t first = 0;
+    size_t steps = 0;
+    size_t length = read_input(stdin, input);
+    Number number = read_tape(input, length, row, TAPE_STEPS, &first, &steps);
+    if (number != DONE)
+        printf("BAD %d\n", (int)number);
+    else
+        print_text_form(stdout, first, row, steps);
+    return STATUS_OK;
+}
+
+static int print_long_tape(uint64_t seed)
+{
+    Dice dice = { seed };
+    size_t length = make_long_tape(&dice, input);
+    return fwrite(input, 1, length, stdout) == length ? STATUS_OK : STATUS_FILE;
+}
+
+static uint16_t boxes_of(const char *text)
+{
+    return (uint16_t)strtoul(text, NULL, 16);
+}
+
+static uint64_t number_of(const char *text)
+{
+    return strtoull(text, NULL, 10);
+}
+
+int main(int arguments, char **argument)
+{
+    const char *command = arguments > 1 ? argument[1] : "";
+    if (strcmp(command, "play") == 0 && arguments <= 3)
+        return play(input, read_input(stdin, input),
+                    arguments == 3 ? (unsigned)number_of(argument[2]) : 0, false);
+    if (strcmp(command, "trace") == 0 && arguments == 2)
+        return play(input, read_input(stdin, input), 0, true);
+    if (strcmp(command, "check") == 0 && arguments == 2)
+        return printf("%d\n", (int)check_tape(input, read_input(stdin, input))) < 0;
+    if (strcmp(command, "majority") == 0 && arguments == 5)
+        return printf("%d\n", majority(boxes_of(argument[2]), boxes_of(argument[3]),
+                                       boxes_of(argument[4]))) < 0;
+    if (strcmp(command, "assemble") == 0 && arguments == 2)
+        return print_assembled();
+    if (strcmp(command, "list") == 0 && arguments == 2)
+        return print_list();
+    if (strcmp(command, "random") == 0 && (arguments == 5 || arguments == 6))
+        return write_random_tapes(number_of(argument[2]), number_of(argument[3]), argument[4],
+                                  arguments == 5 || strcmp(argument[5], "damaged") != 0);
+    if (strcmp(command, "long") == 0 && arguments == 3)
+        return print_long_tape(number_of(argument[2]));
+    if (strcmp(command, "stats") == 0 && arguments == 3)
+        return print_stats(argument[2]);
+    if (strcmp(command, "bench") == 0 && arguments == 5)
+        return bench(argument[2], argument[3], (unsigned long)number_of(argument[4]));
+    fputs(usage, stderr);
+    return STATUS_USAGE;
+}
