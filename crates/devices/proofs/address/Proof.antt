@@ -10,13 +10,13 @@ enum-known-m : tie.Need-enum-known-m
 enum-known-m c = search needs
 
 address-letter-requires : tie.Need-address-letter-requires
-address-letter-requires c κs = search needs
+address-letter-requires c κs = tt
 
 enum-known-m-2 : tie.Need-enum-known-m-2
 enum-known-m-2 c = search needs
 
 address-letter-requires-2 : tie.Need-address-letter-requires-2
-address-letter-requires-2 c κs = search needs
+address-letter-requires-2 c κs = tt
 
 enum-known-m-3 : tie.Need-enum-known-m-3
 enum-known-m-3 c = search needs

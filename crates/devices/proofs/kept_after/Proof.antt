@@ -13,13 +13,13 @@ enum-known-outcome : tie.Need-enum-known-outcome
 enum-known-outcome c = search needs
 
 join-books-requires : tie.Need-join-books-requires
-join-books-requires c κs = search needs
+join-books-requires c κs = tt
 
 enum-known-outcome-2 : tie.Need-enum-known-outcome-2
 enum-known-outcome-2 c = search needs
 
 join-books-requires-2 : tie.Need-join-books-requires-2
-join-books-requires-2 c κs = search needs
+join-books-requires-2 c κs = tt
 
 enum-told-3 : tie.Need-enum-told-3
 enum-told-3 c = search needs

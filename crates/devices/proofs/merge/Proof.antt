@@ -4,13 +4,13 @@ use Rattle.devices.proofs.merge.Statement.{statement}
 use Rattle.devices.proofs.merge.Tie as tie
 
 join-books-requires : tie.Need-join-books-requires
-join-books-requires c κs = search needs
+join-books-requires c κs = tt
 
 join-notes-requires : tie.Need-join-notes-requires
-join-notes-requires c κs = search needs
+join-notes-requires c κs = tt
 
 trim-requires : tie.Need-trim-requires
-trim-requires c κs = search needs
+trim-requires c κs = tt
 
 returns : tie.Need-returns
 returns c = merged-is _ _ _ (c .before .before .before .before .join-books .ensures) (c .before .before .before .join-notes .ensures) (c .trim .ensures)

@@ -4,7 +4,7 @@ use Rattle.devices.proofs.refuse_with.Statement.{statement}
 use Rattle.devices.proofs.refuse_with.Tie as tie
 
 no-sending-requires : tie.Need-no-sending-requires
-no-sending-requires c κs = search needs
+no-sending-requires c κs = tt
 
 returns : tie.Need-returns
 returns c = refuse-is _ _ (c .no-sending .ensures)

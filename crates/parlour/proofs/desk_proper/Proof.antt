@@ -8,7 +8,7 @@ returns : tie.Need-returns
 returns c = search needs
 
 proper-desk-requires : tie.Need-proper-desk-requires
-proper-desk-requires c κs = search needs
+proper-desk-requires c κs = tt
 
 returns-2 : tie.Need-returns-2
 returns-2 c = (c .proper-desk .ensures) ∙ pick-false _ _ (c .before .if1 .left)

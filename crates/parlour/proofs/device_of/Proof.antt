@@ -10,22 +10,22 @@ enum-known-step : tie.Need-enum-known-step
 enum-known-step c = search needs
 
 place-within-requires : tie.Need-place-within-requires
-place-within-requires c κs = search needs
+place-within-requires c κs = omega arith
 
 enum-known-step-2 : tie.Need-enum-known-step-2
 enum-known-step-2 c = search needs
 
 place-within-requires-2 : tie.Need-place-within-requires-2
-place-within-requires-2 c κs = search needs
+place-within-requires-2 c κs = omega arith
 
 enum-told : tie.Need-enum-told
 enum-told c = search needs
 
 addressee-of-requires : tie.Need-addressee-of-requires
-addressee-of-requires c κs = search needs
+addressee-of-requires c κs = tt
 
 place-within-requires-3 : tie.Need-place-within-requires-3
-place-within-requires-3 c κs = search needs
+place-within-requires-3 c κs = omega arith
 
 enum-told-2 : tie.Need-enum-told-2
 enum-told-2 c = search needs
@@ -37,7 +37,7 @@ enum-known-step-3 : tie.Need-enum-known-step-3
 enum-known-step-3 c = search needs
 
 place-within-requires-4 : tie.Need-place-within-requires-4
-place-within-requires-4 c κs = search needs
+place-within-requires-4 c κs = omega arith
 
 returns : tie.Need-returns
 returns c = (device-as _ (c .before .before .step .given .1) (c .place-within .ensures .0), (c .place-within .ensures .1))

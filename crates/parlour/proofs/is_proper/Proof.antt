@@ -11,10 +11,10 @@ use Rattle.parlour.proofs.is_proper.Statement.{statement}
 use Rattle.parlour.proofs.is_proper.Tie as tie
 
 take-requires : tie.Need-take-requires
-take-requires c κs = search needs
+take-requires c κs = tt
 
 number-of-requires : tie.Need-number-of-requires
-number-of-requires c κs = search needs
+number-of-requires c κs = tt
 
 returns : tie.Need-returns
 returns c = ap (λ (n : ℕ). eqb n 2) ((c .number-of .ensures) ∙ ap (λ (s : Stepped). numberOf (s .outcome)) (c .before .take .ensures)) ∙ stop-24 (proper (c .before .before .args .run)) (c .before .before .args .run)

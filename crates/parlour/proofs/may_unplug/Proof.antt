@@ -7,7 +7,7 @@ use Rattle.parlour.proofs.may_unplug.Statement.{statement}
 use Rattle.parlour.proofs.may_unplug.Tie as tie
 
 is-proper-requires : tie.Need-is-proper-requires
-is-proper-requires c κs = search needs
+is-proper-requires c κs = tt
 
 returns : tie.Need-returns
 unfolding mayUnplug

@@ -15,19 +15,19 @@ enum-known-step : tie.Need-enum-known-step
 enum-known-step c = search needs
 
 place-within-requires : tie.Need-place-within-requires
-place-within-requires c κs = search needs
+place-within-requires c κs = omega arith
 
 enum-known-step-2 : tie.Need-enum-known-step-2
 enum-known-step-2 c = search needs
 
 place-within-requires-2 : tie.Need-place-within-requires-2
-place-within-requires-2 c κs = search needs
+place-within-requires-2 c κs = omega arith
 
 enum-known-step-3 : tie.Need-enum-known-step-3
 enum-known-step-3 c = search needs
 
 place-within-requires-3 : tie.Need-place-within-requires-3
-place-within-requires-3 c κs = search needs
+place-within-requires-3 c κs = omega arith
 
 enum-told-3 : tie.Need-enum-told-3
 enum-told-3 c = search needs

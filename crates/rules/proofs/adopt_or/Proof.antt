@@ -6,20 +6,20 @@ use Rattle.rules.proofs.adopt_or.Statement.{statement}
 use Rattle.rules.proofs.adopt_or.Tie as tie
 
 reached-requires : tie.Need-reached-requires
-reached-requires c κs = search needs
+reached-requires c κs = tt
 
 no-sending-requires : tie.Need-no-sending-requires
-no-sending-requires c κs = search needs
+no-sending-requires c κs = tt
 
 hand-back-requires : tie.Need-hand-back-requires
-hand-back-requires c κs = search needs
+hand-back-requires c κs = tt
 
 returns : tie.Need-returns
 unfolding adoptOr
 returns c = chosen _ _ (sym (c .before .before .before .reached .ensures) ∙ (c .before .before .if1 .taken)) (rw (← (c .before .no-sending .ensures)) (c .hand-back .ensures))
 
 refuse-with-requires : tie.Need-refuse-with-requires
-refuse-with-requires c κs = search needs
+refuse-with-requires c κs = tt
 
 returns-2 : tie.Need-returns-2
 unfolding adoptOr
@@ -29,7 +29,7 @@ add-t11 : tie.Need-add-t11
 add-t11 c = search needs
 
 begin-requires : tie.Need-begin-requires
-begin-requires c κs = search needs
+begin-requires c κs = tt
 
 returns-3 : tie.Need-returns-3
 unfolding adoptOr

@@ -8,7 +8,7 @@ use Rattle.rules.proofs.advance_rule.Statement.{statement}
 use Rattle.rules.proofs.advance_rule.Tie as tie
 
 refuse-with-requires : tie.Need-refuse-with-requires
-refuse-with-requires c κs = search needs
+refuse-with-requires c κs = tt
 
 returns : tie.Need-returns
 unfolding advance
@@ -21,24 +21,24 @@ enum-told : tie.Need-enum-told
 enum-told c = search needs
 
 refuse-with-requires-2 : tie.Need-refuse-with-requires-2
-refuse-with-requires-2 c κs = search needs
+refuse-with-requires-2 c κs = tt
 
 returns-2 : tie.Need-returns-2
 unfolding advance
 returns-2 c = passed _ _ (c .before .before .before .before .if1 .left) (advance-as _ _ (c .before .enum-told .given .1) (c .refuse-with2 .ensures))
 
 is-allowed-requires : tie.Need-is-allowed-requires
-is-allowed-requires c κs = search needs
+is-allowed-requires c κs = tt
 
 advance-from-requires : tie.Need-advance-from-requires
-advance-from-requires c κs = search needs
+advance-from-requires c κs = tt
 
 returns-3 : tie.Need-returns-3
 unfolding advance
 returns-3 c = passed _ _ (c .before .before .before .before .before .before .before .if1 .left) (advance-as _ _ (c .before .before .before .before .phase .given .1) (chosen _ _ (sym (c .before .before .is-allowed .ensures) ∙ (c .before .if2 .taken)) (c .advance-from .ensures)))
 
 refuse-with-requires-3 : tie.Need-refuse-with-requires-3
-refuse-with-requires-3 c κs = search needs
+refuse-with-requires-3 c κs = tt
 
 returns-4 : tie.Need-returns-4
 unfolding advance

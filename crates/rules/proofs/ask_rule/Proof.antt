@@ -8,7 +8,7 @@ use Rattle.rules.proofs.ask_rule.Statement.{statement}
 use Rattle.rules.proofs.ask_rule.Tie as tie
 
 refuse-with-requires : tie.Need-refuse-with-requires
-refuse-with-requires c κs = search needs
+refuse-with-requires c κs = tt
 
 returns : tie.Need-returns
 unfolding ask
@@ -18,13 +18,13 @@ enum-told : tie.Need-enum-told
 enum-told c = search needs
 
 ask-pair-requires : tie.Need-ask-pair-requires
-ask-pair-requires c κs = search needs
+ask-pair-requires c κs = tt
 
 enum-told-2 : tie.Need-enum-told-2
 enum-told-2 c = search needs
 
 refuse-with-requires-2 : tie.Need-refuse-with-requires-2
-refuse-with-requires-2 c κs = search needs
+refuse-with-requires-2 c κs = tt
 
 returns-2 : tie.Need-returns-2
 unfolding ask

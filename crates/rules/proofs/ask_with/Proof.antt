@@ -4,13 +4,13 @@ use Rattle.rules.proofs.ask_with.Statement.{statement}
 use Rattle.rules.proofs.ask_with.Tie as tie
 
 own-notes-requires : tie.Need-own-notes-requires
-own-notes-requires c κs = search needs
+own-notes-requires c κs = tt
 
 merge-requires : tie.Need-merge-requires
-merge-requires c κs = search needs
+merge-requires c κs = tt
 
 begin-requires : tie.Need-begin-requires
-begin-requires c κs = search needs
+begin-requires c κs = tt
 
 returns : tie.Need-returns
 unfolding askWith

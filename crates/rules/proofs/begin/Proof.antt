@@ -7,22 +7,22 @@ use Rattle.rules.proofs.begin.Statement.{statement}
 use Rattle.rules.proofs.begin.Tie as tie
 
 refuse-with-requires : tie.Need-refuse-with-requires
-refuse-with-requires c κs = search needs
+refuse-with-requires c κs = tt
 
 returns : tie.Need-returns
 returns c = begun-9 _ _ _ _ _ _ (c .before .if1 .taken) (c .refuse-with .ensures)
 
 asked-boxes-requires : tie.Need-asked-boxes-requires
-asked-boxes-requires c κs = search needs
+asked-boxes-requires c κs = tt
 
 count-boxes-requires : tie.Need-count-boxes-requires
-count-boxes-requires c κs = search needs
+count-boxes-requires c κs = tt
 
 cast-if2 : tie.Need-cast-if2
 cast-if2 c = search needs
 
 refuse-with-requires-2 : tie.Need-refuse-with-requires-2
-refuse-with-requires-2 c κs = search needs
+refuse-with-requires-2 c κs = tt
 
 returns-2 : tie.Need-returns-2
 returns-2 c = begun-10 _ _ _ _ _ _ (c .before .before .before .before .before .before .if1 .left) (c .before .before .before .before .asked-boxes .ensures) (c .before .before .before .count-boxes .ensures) (c .before .if2 .taken) (c .refuse-with2 .ensures)

@@ -6,14 +6,14 @@ use Rattle.rules.proofs.commit_rule.Statement.{statement}
 use Rattle.rules.proofs.commit_rule.Tie as tie
 
 refuse-with-requires : tie.Need-refuse-with-requires
-refuse-with-requires c κs = search needs
+refuse-with-requires c κs = tt
 
 returns : tie.Need-returns
 unfolding commit
 returns c = chosen _ _ (lt-ltb _ _ (c .before .if1 .taken)) (c .refuse-with .ensures)
 
 hand-back-requires : tie.Need-hand-back-requires
-hand-back-requires c κs = search needs
+hand-back-requires c κs = tt
 
 returns-2 : tie.Need-returns-2
 unfolding commit

@@ -4,7 +4,7 @@ use Rattle.rules.proofs.decide.Statement.{statement}
 use Rattle.rules.proofs.decide.Tie as tie
 
 join-changes-requires : tie.Need-join-changes-requires
-join-changes-requires c κs = search needs
+join-changes-requires c κs = tt
 
 returns : tie.Need-returns
 returns c = decided-is _ (c .join-changes .ensures)

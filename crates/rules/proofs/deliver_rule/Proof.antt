@@ -10,25 +10,25 @@ enum-told : tie.Need-enum-told
 enum-told c = search needs
 
 refuse-with-requires : tie.Need-refuse-with-requires
-refuse-with-requires c κs = search needs
+refuse-with-requires c κs = tt
 
 enum-known-m : tie.Need-enum-known-m
 enum-known-m c = search needs
 
 hear-request-requires : tie.Need-hear-request-requires
-hear-request-requires c κs = search needs
+hear-request-requires c κs = tt
 
 enum-known-m-2 : tie.Need-enum-known-m-2
 enum-known-m-2 c = search needs
 
 hear-answer-requires : tie.Need-hear-answer-requires
-hear-answer-requires c κs = search needs
+hear-answer-requires c κs = tt
 
 enum-known-m-3 : tie.Need-enum-known-m-3
 enum-known-m-3 c = search needs
 
 hear-commit-requires : tie.Need-hear-commit-requires
-hear-commit-requires c κs = search needs
+hear-commit-requires c κs = tt
 
 returns : tie.Need-returns
 unfolding deliver

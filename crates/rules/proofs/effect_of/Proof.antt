@@ -6,24 +6,24 @@ use Rattle.rules.proofs.effect_of.Statement.{statement}
 use Rattle.rules.proofs.effect_of.Tie as tie
 
 in-range-requires : tie.Need-in-range-requires
-in-range-requires c κs = search needs
+in-range-requires c κs = tt
 
 rule-requires : tie.Need-rule-requires
-rule-requires c κs = search needs
+rule-requires c κs = tt
 
 returns : tie.Need-returns
 unfolding effectOf
 returns c = chosen _ _ (c .before .before .before .if1 .taken) (chosen _ _ (sym (c .before .before .in-range .ensures) ∙ (c .before .if2 .taken)) (c .rule .ensures))
 
 refuse-with-requires : tie.Need-refuse-with-requires
-refuse-with-requires c κs = search needs
+refuse-with-requires c κs = tt
 
 returns-2 : tie.Need-returns-2
 unfolding effectOf
 returns-2 c = chosen _ _ (c .before .before .before .if1 .taken) (passed _ _ (sym (c .before .before .in-range .ensures) ∙ (c .before .if2 .left)) (c .refuse-with .ensures))
 
 refuse-with-requires-2 : tie.Need-refuse-with-requires-2
-refuse-with-requires-2 c κs = search needs
+refuse-with-requires-2 c κs = tt
 
 returns-3 : tie.Need-returns-3
 unfolding effectOf

@@ -5,17 +5,17 @@ use Rattle.rules.proofs.hear_commit.Statement.{statement}
 use Rattle.rules.proofs.hear_commit.Tie as tie
 
 refuse-with-requires : tie.Need-refuse-with-requires
-refuse-with-requires c κs = search needs
+refuse-with-requires c κs = tt
 
 returns : tie.Need-returns
 unfolding deliver
 returns c = chosen _ _ (c .before .if1 .taken) (c .refuse-with .ensures)
 
 merge-requires : tie.Need-merge-requires
-merge-requires c κs = search needs
+merge-requires c κs = tt
 
 hear-with-requires : tie.Need-hear-with-requires
-hear-with-requires c κs = search needs
+hear-with-requires c κs = tt
 
 returns-2 : tie.Need-returns-2
 unfolding deliver

@@ -5,17 +5,17 @@ use Rattle.rules.proofs.hear_request.Statement.{statement}
 use Rattle.rules.proofs.hear_request.Tie as tie
 
 refuse-with-requires : tie.Need-refuse-with-requires
-refuse-with-requires c κs = search needs
+refuse-with-requires c κs = tt
 
 returns : tie.Need-returns
 unfolding deliver
 returns c = chosen _ _ (c .before .if1 .taken) (c .refuse-with .ensures)
 
 merge-requires : tie.Need-merge-requires
-merge-requires c κs = search needs
+merge-requires c κs = tt
 
 only-device-requires : tie.Need-only-device-requires
-only-device-requires c κs = search needs
+only-device-requires c κs = tt
 
 returns-2 : tie.Need-returns-2
 unfolding deliver

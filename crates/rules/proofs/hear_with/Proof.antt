@@ -7,7 +7,7 @@ use Rattle.rules.proofs.hear_with.Statement.{statement}
 use Rattle.rules.proofs.hear_with.Tie as tie
 
 no-sending-requires : tie.Need-no-sending-requires
-no-sending-requires c κs = search needs
+no-sending-requires c κs = tt
 
 returns : tie.Need-returns
 returns c = heard-is _ _ (c .before .before .args .h) (c .no-sending .ensures)

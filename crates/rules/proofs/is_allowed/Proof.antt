@@ -6,10 +6,10 @@ use Rattle.rules.proofs.is_allowed.Statement.{statement}
 use Rattle.rules.proofs.is_allowed.Tie as tie
 
 same-config-requires : tie.Need-same-config-requires
-same-config-requires c κs = search needs
+same-config-requires c κs = tt
 
 every-majority-requires : tie.Need-every-majority-requires
-every-majority-requires c κs = search needs
+every-majority-requires c κs = tt
 
 returns : tie.Need-returns
 unfolding allowed

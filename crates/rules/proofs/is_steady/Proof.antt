@@ -4,7 +4,7 @@ use Rattle.rules.proofs.is_steady.Statement.{statement}
 use Rattle.rules.proofs.is_steady.Tie as tie
 
 same-config-requires : tie.Need-same-config-requires
-same-config-requires c κs = search needs
+same-config-requires c κs = tt
 
 returns : tie.Need-returns
 unfolding steady

@@ -6,20 +6,20 @@ use Rattle.rules.proofs.lose_rule.Statement.{statement}
 use Rattle.rules.proofs.lose_rule.Tie as tie
 
 is-empty-requires : tie.Need-is-empty-requires
-is-empty-requires c κs = search needs
+is-empty-requires c κs = tt
 
 refuse-with-requires : tie.Need-refuse-with-requires
-refuse-with-requires c κs = search needs
+refuse-with-requires c κs = tt
 
 returns : tie.Need-returns
 unfolding lose
 returns c = chosen _ _ (sym (c .before .before .is-empty .ensures) ∙ (c .before .if1 .taken)) (c .refuse-with .ensures)
 
 no-sending-requires : tie.Need-no-sending-requires
-no-sending-requires c κs = search needs
+no-sending-requires c κs = tt
 
 leave-requires : tie.Need-leave-requires
-leave-requires c κs = search needs
+leave-requires c κs = tt
 
 returns-2 : tie.Need-returns-2
 unfolding lose

@@ -10,7 +10,7 @@ enum-known-phase : tie.Need-enum-known-phase
 enum-known-phase c = search needs
 
 box-of-requires : tie.Need-box-of-requires
-box-of-requires c κs = search needs
+box-of-requires c κs = tt
 
 returns : tie.Need-returns
 returns c = marked-own _ _ (c .before .before .before .before .before .before .phase .given .1) (c .before .before .if1 .taken) (c .before .box-of .ensures)

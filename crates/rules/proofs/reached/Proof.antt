@@ -10,7 +10,7 @@ enum-known-floor : tie.Need-enum-known-floor
 enum-known-floor c = search needs
 
 book-inside-requires : tie.Need-book-inside-requires
-book-inside-requires c κs = search needs
+book-inside-requires c κs = tt
 
 returns : tie.Need-returns
 returns c = floor-unset _ (c .enum-told .given .1)

@@ -7,30 +7,30 @@ use Rattle.rules.proofs.repeat_rule.Statement.{statement}
 use Rattle.rules.proofs.repeat_rule.Tie as tie
 
 is-empty-requires : tie.Need-is-empty-requires
-is-empty-requires c κs = search needs
+is-empty-requires c κs = tt
 
 refuse-with-requires : tie.Need-refuse-with-requires
-refuse-with-requires c κs = search needs
+refuse-with-requires c κs = tt
 
 returns : tie.Need-returns
 unfolding again
 returns c = chosen _ _ (sym (c .before .before .is-empty .ensures) ∙ (c .before .if1 .taken)) (c .refuse-with .ensures)
 
 refuse-with-requires-2 : tie.Need-refuse-with-requires-2
-refuse-with-requires-2 c κs = search needs
+refuse-with-requires-2 c κs = tt
 
 returns-2 : tie.Need-returns-2
 unfolding again
 returns-2 c = passed _ _ (sym (c .before .before .before .before .is-empty .ensures) ∙ (c .before .before .before .if1 .left)) (chosen _ _ (lt-ltb _ _ (c .before .if2 .taken)) (c .refuse-with2 .ensures))
 
 addressee-of-requires : tie.Need-addressee-of-requires
-addressee-of-requires c κs = search needs
+addressee-of-requires c κs = tt
 
 only-device-requires : tie.Need-only-device-requires
-only-device-requires c κs = search needs
+only-device-requires c κs = tt
 
 leave-requires : tie.Need-leave-requires
-leave-requires c κs = search needs
+leave-requires c κs = tt
 
 returns-3 : tie.Need-returns-3
 unfolding again

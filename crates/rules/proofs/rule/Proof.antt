@@ -10,37 +10,37 @@ enum-known-step : tie.Need-enum-known-step
 enum-known-step c = search needs
 
 ask-rule-requires : tie.Need-ask-rule-requires
-ask-rule-requires c κs = search needs
+ask-rule-requires c κs = tt
 
 enum-known-step-2 : tie.Need-enum-known-step-2
 enum-known-step-2 c = search needs
 
 advance-rule-requires : tie.Need-advance-rule-requires
-advance-rule-requires c κs = search needs
+advance-rule-requires c κs = tt
 
 enum-told : tie.Need-enum-told
 enum-told c = search needs
 
 deliver-rule-requires : tie.Need-deliver-rule-requires
-deliver-rule-requires c κs = search needs
+deliver-rule-requires c κs = tt
 
 enum-told-2 : tie.Need-enum-told-2
 enum-told-2 c = search needs
 
 lose-rule-requires : tie.Need-lose-rule-requires
-lose-rule-requires c κs = search needs
+lose-rule-requires c κs = tt
 
 enum-told-3 : tie.Need-enum-told-3
 enum-told-3 c = search needs
 
 repeat-rule-requires : tie.Need-repeat-rule-requires
-repeat-rule-requires c κs = search needs
+repeat-rule-requires c κs = tt
 
 enum-told-4 : tie.Need-enum-told-4
 enum-told-4 c = search needs
 
 stop-rule-requires : tie.Need-stop-rule-requires
-stop-rule-requires c κs = search needs
+stop-rule-requires c κs = tt
 
 returns : tie.Need-returns
 unfolding ruled

@@ -5,17 +5,17 @@ use Rattle.rules.proofs.stop_rule.Statement.{statement}
 use Rattle.rules.proofs.stop_rule.Tie as tie
 
 refuse-with-requires : tie.Need-refuse-with-requires
-refuse-with-requires c κs = search needs
+refuse-with-requires c κs = tt
 
 returns : tie.Need-returns
 unfolding stop
 returns c = chosen _ _ (c .before .if1 .taken) (c .refuse-with .ensures)
 
 no-sending-requires : tie.Need-no-sending-requires
-no-sending-requires c κs = search needs
+no-sending-requires c κs = tt
 
 leave-requires : tie.Need-leave-requires
-leave-requires c κs = search needs
+leave-requires c κs = tt
 
 returns-2 : tie.Need-returns-2
 unfolding stop

@@ -1,0 +1,14 @@
+pub mod BitLaws
+pub mod Shifts
+pub mod WordLaws
+pub mod ByteLaws
+pub mod LayLaws
+pub mod LayoutLaws
+pub mod ReadingLaws
+pub mod StepLaws
+pub mod WritingLaws
+pub mod TapeLaws
+pub mod PromiseLaws
+pub mod Settled
+pub mod RoundTrip
+pub mod CallsRoundTrip

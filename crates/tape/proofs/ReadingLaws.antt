@@ -1,0 +1,260 @@
+-- The cases of the definitions of reading, one law for each; and that readings go on.
+use mathlib.Core.Path.{_≡_, refl, sym, ap, _∙_}
+use mathlib.Core.Logic.{_≢_, ⊎-elim}
+use Prim.Native.Nat.{ℕ, zero, suc, _+_, _-_, _≤_, _<_}
+use mathlib.Core.List.{List, [], _∷_, _++_}
+use mathlib.Core.Bool.{Bool, true, false, cond}
+use native.Mathlib.Nat.{add-zero}
+use native.Mathlib.Omega.{arith}
+use lib.ListN.{length, take, drop, length-append, length-take, length-drop}
+use lib.Seq.{take-append-le, take-all, drop-drop}
+use lib.Dec.{leb, ltb, eqb}
+use borrow.Author.Tests.{lt-ltb, le-ltb, le-leb, lt-leb, eq-eqb, ne-eqb, leb-true, eqb-false, eqb-true, ltb-true, ltb-false}
+use types.Run.{OneOf}
+use denote.Enum.Declared.{tagOf}
+use Rattle.tape.specs.Bits.{bit, num, bits, word, Ahead}
+use Rattle.tape.specs.Layout.{width, legal, mark}
+use Rattle.tape.specs.Reading.{stepAt, kindAt, endAt, begins, readAt, Outcome, given, refused, more, onward, readFrom}
+use Rattle.tape.specs.Promises.{numberWith, numberAtEnd}
+use Rattle.tape.specs.declared.reading.Reading.{Reading}
+use Rattle.tape.specs.declared.reading.Reading.the-variants.{Step, Refused, End}
+use Rattle.tape.proofs.reading.Reading.{the-type}
+use Rattle.tape.proofs.BitLaws.{length-bits, drop-take}
+use Rattle.tape.proofs.LayoutLaws.{cond-has, both, width-least}
+
+module _ (m l : List Bool) where
+  pub begins-yes : length m ≤ length l → num (take (length m) l) ≡ num m → begins m l ≡ true
+  unfolding begins
+  begins-yes h e = simp (le-leb _ _ h, eq-eqb _ _ e)
+
+  begins-short : length l < length m → begins m l ≡ false
+  unfolding begins
+  begins-short h = simp (lt-leb _ _ h)
+
+  begins-no : num (take (length m) l) ≢ num m → begins m l ≡ false
+  unfolding begins
+  begins-no h = go (leb (length m) (length l))
+    where
+      go : (b : Bool) → cond b (eqb (num (take (length m) l)) (num m)) false ≡ false
+      go true = ne-eqb _ _ h
+      go false = refl
+
+  pub begins-is : begins m l ≡ true → (length m ≤ length l) × (num (take (length m) l) ≡ num m)
+  unfolding begins
+  begins-is h = let b = both (leb (length m) (length l)) h in (leb-true _ _ (b .0), eqb-true _ _ (b .1))
+
+  -- what stands behind does not matter
+  pub begins-append : (r : List Bool) → length m ≤ length l → begins m (l ++ r) ≡ begins m l
+  unfolding begins
+  begins-append r h =
+      let k : length m ≤ length (l ++ r) = rw length-append (omega arith) in
+      simp (le-leb _ _ h, le-leb _ _ k, take-append-le (length m) l r h)
+
+-- a kind that has a step is no end mark of the first edition
+pub step-unmarked : (l : List Bool) (k : ℕ) → num (take 3 l) ≡ k → width 1 k ≢ 0 → begins (mark 1) l ≡ false
+unfolding mark num bit
+step-unmarked l k e h = begins-no (mark 1) l (λ m. h (ap (width 1) (sym e ∙ m)))
+
+module _ (t : List Bool) (p : ℕ) where
+  pub end-long : p + 8 ≤ length t → endAt t p ≡ Refused 15
+  unfolding endAt
+  end-long h = simp (le-ltb _ _ h)
+
+  pub end-set : num (drop p t) ≢ 0 → endAt t p ≡ Refused 15
+  unfolding endAt
+  end-set h = go (ltb (length t) (p + 8))
+    where
+      go : (b : Bool) → cond b (cond (eqb (num (drop p t)) 0) End (Refused 15)) (Refused 15) ≡ Refused 15
+      go true = simp (ne-eqb _ _ h)
+      go false = refl
+
+  pub end-good : length t < p + 8 → num (drop p t) ≡ 0 → endAt t p ≡ End
+  unfolding endAt
+  end-good h e = simp (lt-ltb _ _ h, e)
+
+-- the end of some bits is that of the part that is left
+end-drop : (t : List Bool) (p : ℕ) → p ≤ length t → endAt (drop p t) 0 ≡ endAt t p
+end-drop t p h = go (ltb (length t) (p + 8)) refl (eqb (num (drop p t)) 0) refl
+  where
+    go : (b : Bool) → ltb (length t) (p + 8) ≡ b → (c : Bool) → eqb (num (drop p t)) 0 ≡ c → endAt (drop p t) 0 ≡ endAt t p
+    go true e true f =
+        let l : length t < p + 8 = ltb-true _ _ e in
+        end-good (drop p t) 0 (rw length-drop (omega arith)) (eqb-true _ _ f) ∙ sym (end-good t p l (eqb-true _ _ f))
+    go true e false f = end-set (drop p t) 0 (eqb-false _ _ f) ∙ sym (end-set t p (eqb-false _ _ f))
+    go false e c f =
+        let l : p + 8 ≤ length t = ltb-false _ _ e in
+        end-long (drop p t) 0 (rw length-drop (omega arith)) ∙ sym (end-long t p l)
+
+-- the end by the bits ahead
+end-ahead : (t : List Bool) (p x left : ℕ) → Ahead t p x → left ≡ length t - p → 3 ≤ left → endAt (take (left - 3) (drop 3 (bits 64 x))) 0 ≡ endAt t (p + 3)
+end-ahead t p x left a e h = go (ltb (left - 3) 8) refl
+  where
+    go : (b : Bool) → ltb (left - 3) 8 ≡ b → endAt (take (left - 3) (drop 3 (bits 64 x))) 0 ≡ endAt t (p + 3)
+    go true f =
+        let l : left - 3 < 8 = ltb-true _ _ f in
+        let k : 3 + (left - 3) ≤ 57 = omega arith in
+        let m : p + (3 + (left - 3)) ≤ length t = omega arith in
+        ap (λ z. endAt z 0)
+        (sym (drop-take 3 (left - 3) (bits 64 x) (rw length-bits (omega arith)))
+        ∙ ap (drop 3) (a (3 + (left - 3)) k m)
+        ∙ drop-take 3 (left - 3) (drop p t) (rw length-drop (omega arith))
+        ∙ ap (take (left - 3)) (drop-drop 3 p t)
+        ∙ take-all (left - 3) (drop (p + 3) t) (rw length-drop (omega arith)))
+        ∙ end-drop t (p + 3) (omega arith)
+    go false f =
+        let l : 8 ≤ left - 3 = ltb-false _ _ f in
+        end-long (take (left - 3) (drop 3 (bits 64 x))) 0 (simp (length-take, length-drop, length-bits) (omega arith)) ∙ sym (end-long t (p + 3) (omega arith))
+
+-- a reading that is a step goes on, within the tape
+abbrev pub Moves : List Bool → ℕ → Reading → Type 0
+Moves t p (Step x q) = (p < q) × (q ≤ length t)
+Moves t p (Refused k) = Unit {0}
+Moves t p End = Unit {0}
+
+module _ (ed : ℕ) (t : List Bool) (p : ℕ) where
+  pub step-short : (w : ℕ) → length t < p + w → stepAt ed t p w ≡ Refused 13
+  unfolding stepAt
+  step-short w h = simp (lt-leb _ _ h)
+
+  pub step-bad : (w : ℕ) → p + w ≤ length t → legal ed (take w (drop p t)) ≡ false → stepAt ed t p w ≡ Refused 14
+  unfolding stepAt
+  step-bad w h e = simp (le-leb _ _ h, e)
+
+  pub step-good : (w : ℕ) → p + w ≤ length t → legal ed (take w (drop p t)) ≡ true → stepAt ed t p w ≡ Step (word (take w (drop p t))) (p + w)
+  unfolding stepAt
+  step-good w h e = simp (le-leb _ _ h, e)
+
+  pub kind-step : (k : ℕ) → width ed k ≢ 0 → kindAt ed t p k ≡ stepAt ed t p (width ed k)
+  unfolding kindAt
+  kind-step k h = simp (ne-eqb _ _ h)
+
+  pub kind-none : (k : ℕ) → width ed k ≡ 0 → kindAt ed t p k ≡ Refused 14
+  unfolding kindAt
+  kind-none k e = simp (eq-eqb _ _ e)
+
+  pub read-mark : begins (mark ed) (drop p t) ≡ true → readAt ed t p ≡ endAt t (p + length (mark ed))
+  unfolding readAt
+  read-mark e = simp e
+
+  read-short : begins (mark ed) (drop p t) ≡ false → length t < p + 3 → readAt ed t p ≡ Refused 13
+  unfolding readAt
+  read-short e h = simp (e, lt-leb _ _ h)
+
+  pub read-kind : (k : ℕ) → begins (mark ed) (drop p t) ≡ false → p + 3 ≤ length t → num (take 3 (drop p t)) ≡ k → readAt ed t p ≡ kindAt ed t p k
+  unfolding readAt
+  read-kind k e h f = simp (e, le-leb _ _ h, f)
+
+  -- a property of every reading: of a refusal, of the end, and of a step
+  pub read-has : (P : Reading → Type 0) → ((k : ℕ) → 0 < k → P (Refused k))
+      → (begins (mark ed) (drop p t) ≡ true → length t < p + length (mark ed) + 8 → num (drop (p + length (mark ed)) t) ≡ 0 → P End)
+      → ((k : ℕ) → begins (mark ed) (drop p t) ≡ false → num (take 3 (drop p t)) ≡ k → width ed k ≢ 0 → p + width ed k ≤ length t
+      → legal ed (take (width ed k) (drop p t)) ≡ true → P (Step (word (take (width ed k) (drop p t))) (p + width ed k)))
+      → P (readAt ed t p)
+  unfolding readAt kindAt stepAt endAt
+  read-has P bad end step =
+      cond-has P (begins (mark ed) (drop p t))
+      (λ m. cond-has P (ltb (length t) (p + length (mark ed) + 8))
+      (λ l. cond-has P (eqb (num (drop (p + length (mark ed)) t)) 0) (λ z. end m (ltb-true _ _ l) (eqb-true _ _ z)) (λ _. bad 15 (omega arith))) (λ _. bad 15 (omega arith)))
+      (λ m. cond-has P (leb (p + 3) (length t))
+      (λ _. cond-has P (eqb (width ed k) 0) (λ _. bad 14 (omega arith))
+      (λ n. cond-has P (leb (p + width ed k) (length t))
+      (λ l. cond-has P (legal ed (take (width ed k) (drop p t))) (λ g. step k m refl (eqb-false _ _ n) (leb-true _ _ l) g) (λ _. bad 14 (omega arith)))
+      (λ _. bad 13 (omega arith))))
+      (λ _. bad 13 (omega arith)))
+    where
+      k : ℕ
+      k = num (take 3 (drop p t))
+
+  pub moves : Moves t p (readAt ed t p)
+  moves = read-has (Moves t p) (λ _ _. tt) (λ _ _ _. tt) (λ k _ _ n l _. (omega (arith, width-least ed k n), l))
+
+  -- one reading more
+  pub read-from : (f n : ℕ) → n < f → readFrom ed (f - n) t p ≡ onward (readAt ed t p) (readFrom ed (f - (n + 1)) t)
+  unfolding readFrom
+  read-from f n h = let e : f - n ≡ suc (f - (n + 1)) = omega arith in rw e
+
+-- the first edition, whose end mark is kind 7
+module _ (t : List Bool) (p : ℕ) where
+  pub first-short : length t < p + 3 → readAt 1 t p ≡ Refused 13
+  unfolding mark
+  first-short h = read-short 1 t p (begins-short (mark 1) (drop p t) (rw length-drop (omega arith))) h
+
+  first-end : p + 3 ≤ length t → num (take 3 (drop p t)) ≡ 7 → readAt 1 t p ≡ endAt t (p + 3)
+  unfolding mark num bit
+  first-end h e = read-mark 1 t p (begins-yes (mark 1) (drop p t) (rw length-drop (omega arith)) e)
+
+  first-kind : (k : ℕ) → p + 3 ≤ length t → num (take 3 (drop p t)) ≡ k → k ≢ 7 → readAt 1 t p ≡ kindAt 1 t p k
+  unfolding mark num bit
+  first-kind k h e n = read-kind 1 t p k (begins-no (mark 1) (drop p t) (λ m. n (sym e ∙ m))) h e
+
+  pub first-step : (k : ℕ) → p + 3 ≤ length t → num (take 3 (drop p t)) ≡ k → width 1 k ≢ 0 → readAt 1 t p ≡ stepAt 1 t p (width 1 k)
+  first-step k h e n = first-kind k h e (λ z. n (ap (width 1) z)) ∙ kind-step 1 t p k n
+
+  -- where no step begins with the kind
+  pub first-none : (x left k : ℕ) → Ahead t p x → left ≡ length t - p → 3 ≤ left → num (take 3 (drop p t)) ≡ k → width 1 k ≡ 0
+      → cond (eqb k 7) (endAt (take (left - 3) (drop 3 (bits 64 x))) 0) (Refused 14) ≡ readAt 1 t p
+  first-none x left k a l h e z = go (eqb k 7) refl
+    where
+      go : (b : Bool) → eqb k 7 ≡ b → cond b (endAt (take (left - 3) (drop 3 (bits 64 x))) 0) (Refused 14) ≡ readAt 1 t p
+      go true f = end-ahead t p x left a l h ∙ sym (first-end (omega arith) (e ∙ eqb-true _ _ f))
+      go false f = sym (first-kind k (omega arith) e (eqb-false _ _ f) ∙ kind-none 1 t p k z)
+
+-- one step more, and what is left
+pub more-is : (x : ℕ) (o : Outcome) (l : List ℕ) → more x o ≡ given l → (ys : List ℕ) × (o ≡ given ys) × (l ≡ x ∷ ys)
+more-is x (given ys) l e = (ys, refl, cc)
+more-is x (refused k) l e = let z : _≡_ {A = ℕ} 0 1 = cc in absurd (omega arith)
+
+-- there are fewer steps than the fuel
+pub steps-fewer : (ed f : ℕ) (t : List Bool) (p : ℕ) (xs : List ℕ) → readFrom ed f t p ≡ given xs → length xs < f
+unfolding readFrom
+steps-fewer ed zero t p xs e = let q : _≡_ {A = ℕ} 0 1 = cc in absurd (omega arith)
+steps-fewer ed (suc f) t p xs e = go (readAt ed t p) e (λ (q : ℕ) (ys : List ℕ) (g : readFrom ed f t q ≡ given ys). steps-fewer ed f t q ys g)
+  where
+    go : (r : Reading) → onward r (readFrom ed f t) ≡ given xs → ((q : ℕ) (ys : List ℕ) → readFrom ed f t q ≡ given ys → length ys < f) → length xs < suc f
+    go (Step y q) e ih =
+        let m = more-is y (readFrom ed f t q) xs e in
+        omega (arith, ih q (m .0) (m .1), ap length (m .2))
+    go (Refused k) e ih = let q : _≡_ {A = ℕ} 0 1 = cc in absurd (omega arith)
+    go End e ih = let q : [] ≡ xs = cc in omega (arith, ap length q)
+
+-- a refusal has a number other than 0
+abbrev pub Numbered : Outcome → Type 0
+Numbered (given xs) = Unit {0}
+Numbered (refused k) = 0 < k
+
+abbrev NumberedAt : Reading → Type 0
+NumberedAt (Step x q) = Unit {0}
+NumberedAt (Refused k) = 0 < k
+NumberedAt End = Unit {0}
+
+pub numbered-from : (ed f : ℕ) (t : List Bool) (p : ℕ) → Numbered (readFrom ed f t p)
+unfolding readFrom
+numbered-from ed zero t p = omega arith
+numbered-from ed (suc f) t p =
+    go (readAt ed t p) (read-has ed t p NumberedAt (λ k h. h) (λ _ _ _. tt) (λ _ _ _ _ _ _. tt)) (λ q. numbered-from ed f t q)
+  where
+    before : (x : ℕ) (o : Outcome) → Numbered o → Numbered (more x o)
+    before x (given xs) h = tt
+    before x (refused k) h = h
+
+    go : (r : Reading) → NumberedAt r → ((q : ℕ) → Numbered (readFrom ed f t q)) → Numbered (onward r (readFrom ed f t))
+    go (Step x q) h ih = before x (readFrom ed f t q) (ih q)
+    go (Refused k) h ih = h
+    go End h ih = tt
+
+-- the number at a reading that is no step
+pub last-is : (r : Reading) (m n : ℕ) (rest : ℕ → Outcome) → OneOf (1 ∷ 2 ∷ []) (tagOf the-type r) → numberAtEnd r m n ≡ numberWith n m (onward r rest)
+last-is (Step x q) m n rest h = absurd (⊎-elim (λ (e : _≡_ {A = ℕ} 0 1). omega arith) (λ (e : _≡_ {A = ℕ} 0 2). omega arith) h)
+last-is (Refused k) m n rest h = refl
+last-is End m n rest h = ap (λ j. cond (leb j n) 0 16) (sym (add-zero m))
+
+-- one step more before the rest
+pub one-more : (n m x : ℕ) (o : Outcome) → numberWith n m (more x o) ≡ numberWith n (m + 1) o
+one-more n m x (given xs) = let e : m + suc (length xs) ≡ m + 1 + length xs = omega arith in ap (λ j. cond (leb j n) 0 16) e
+one-more n m x (refused k) = refl
+
+-- at a reading that is no step nothing is left
+pub none-left : (r : Reading) (rest : ℕ → Outcome) (l : List ℕ) → OneOf (1 ∷ 2 ∷ []) (tagOf the-type r) → onward r rest ≡ given l → l ≡ []
+none-left (Step x q) rest l h e = absurd (⊎-elim (λ (e : _≡_ {A = ℕ} 0 1). omega arith) (λ (e : _≡_ {A = ℕ} 0 2). omega arith) h)
+none-left (Refused k) rest l h e = let z : _≡_ {A = ℕ} 0 1 = cc in absurd (omega arith)
+none-left End rest l h e = cc

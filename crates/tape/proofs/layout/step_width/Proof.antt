@@ -1,0 +1,95 @@
+-- `layout::step_width` meets its contract.
+use borrow.Author.Needs.{needs}
+use native.Mathlib.Omega.{arith}
+use mathlib.Core.Path.{_≡_, refl, sym, ap, _∙_}
+use mathlib.Core.Logic.{_≢_}
+use Prim.Native.Nat.{ℕ}
+use mathlib.Core.Bool.{false}
+use lib.ListN.{take}
+use Rattle.tape.specs.Bits.{num, bits, word}
+use Rattle.tape.specs.Layout.{width, legal, mark}
+use Rattle.tape.specs.Reading.{begins}
+use Rattle.tape.specs.declared.layout.Layout.{Layout}
+use Rattle.tape.proofs.WordLaws.{field-top}
+use Rattle.tape.proofs.LayoutLaws.{width-most, width-least}
+use Rattle.tape.proofs.ReadingLaws.{step-unmarked}
+use Rattle.tape.proofs.StepLaws.{wide-none, wide-bad, wide-low, wide-good}
+use Rattle.tape.proofs.layout.step_width.Statement.{statement}
+use Rattle.tape.proofs.layout.step_width.Tie as tie
+
+-- what the code has found of a word x, of kind k and width w
+record Found (x k w : ℕ) : Type 0 where
+  kind : k ≡ num (take 3 (bits 64 x))
+  wide : w ≡ width 1 (num (take 3 (bits 64 x)))
+
+found : (c : tie.After-layout-of) → Found (c .before .before .args .word) (c .before .field .result) (c .layout-of .result .width)
+found c =
+    let k = c .before .field .ensures ∙ field-top (c .before .before .args .word) 3 (omega arith) in
+    record { kind = k; wide = ap (λ (r : Layout). r .width) (c .layout-of .ensures) ∙ ap (width 1) k }
+
+some : (c : tie.Else1) → width 1 (num (take 3 (bits 64 (c .before .before .before .args .word)))) ≢ 0
+some c e = c .if1 .left (found (c .before) .wide ∙ e)
+
+unmarked : (c : tie.Else1) → begins (mark 1) (bits 64 (c .before .before .before .args .word)) ≡ false
+unmarked c = step-unmarked (bits 64 (c .before .before .before .args .word)) _ refl (some c)
+
+field-requires : tie.Need-field-requires
+field-requires c κs = search needs
+
+layout-of-requires : tie.Need-layout-of-requires
+layout-of-requires c κs = search needs
+
+returns : tie.Need-returns
+returns c = sym (wide-none 1 (c .before .before .before .args .word) (sym (found (c .before) .wide) ∙ c .if1 .taken))
+
+top-requires : tie.Need-top-requires
+top-requires c κs =
+    let k = num (take 3 (bits 64 (c .before .before .before .args .word))) in
+    let e = found (c .before) .wide in
+    let n = some c in
+    (omega (arith, e, width-least 1 k n), omega (arith, e, width-most 1 k))
+
+-- the bits at the top of the word
+tops : (c : tie.After-top) → c .top .result ≡ word (take (width 1 (num (take 3 (bits 64 (c .before .before .before .before .args .word))))) (bits 64 (c .before .before .before .before .args .word)))
+tops c = c .top .ensures ∙ ap (λ w. word (take w (bits 64 (c .before .before .before .before .args .word)))) (found (c .before .before) .wide)
+
+returns-2 : tie.Need-returns-2
+returns-2 c =
+    let e = c .before .before in
+    sym (wide-low 1 (e .before .before .before .args .word) (unmarked e) (some e) (λ h. c .if2 .taken (tops (c .before) ∙ h)))
+
+in-range-requires : tie.Need-in-range-requires
+in-range-requires c κs =
+    let e = c .before .before in
+    let k = found (e .before) .kind in
+    (k, λ h. some e (ap (width 1) (sym k) ∙ h))
+
+judged : (c : tie.After-in-range) → legal 1 (take (width 1 (num (take 3 (bits 64 (c .before .before .before .before .before .before .args .word))))) (bits 64 (c .before .before .before .before .before .before .args .word))) ≡ c .in-range .result
+judged c =
+    let e = c .before .before .before in
+    let x = e .before .before .before .args .word in
+    sym (c .in-range .ensures ∙ ap (λ k. legal 1 (take (width 1 k) (bits 64 x))) (found (e .before) .kind))
+
+returns-3 : tie.Need-returns-3
+returns-3 c =
+    let e = c .before .before .before .before in
+    found (e .before) .wide
+    ∙ sym (wide-good 1 (e .before .before .before .args .word) (unmarked e) (some e) (judged (c .before) ∙ c .if3 .taken) (sym (tops (c .before .before .before)) ∙ c .before .before .if2 .left))
+
+returns-4 : tie.Need-returns-4
+returns-4 c =
+    let e = c .before .before .before .before in
+    sym (wide-bad 1 (e .before .before .before .args .word) (unmarked e) (some e) (judged (c .before) ∙ c .if3 .left))
+
+pub step-width-spec : {M : Type 1} → statement M
+step-width-spec =
+    tie.close
+    (tie.spec
+    field-requires
+    layout-of-requires
+    returns
+    top-requires
+    returns-2
+    in-range-requires
+    returns-3
+    returns-4)

@@ -1,0 +1,6 @@
+pub mod Bits
+pub mod Layout
+pub mod Reading
+pub mod Writing
+pub mod Promises
+pub mod Edges

@@ -1,0 +1,87 @@
+// The layout of a step by its kind: one table, which the reader and the writer share.
+ghost use mathlib.Core.Path.{_≡_};
+ghost use Prim.Native.Nat.{_+_, _≤_};
+ghost use lib.ListN.{take};
+ghost use Rattle.tape.specs.Bits.{num, bits};
+ghost use Rattle.tape.specs.Layout.{fields, stepOf, row, width, legal};
+ghost use Rattle.tape.specs.Writing.{wide};
+use crate::bits::field;
+use crate::bits::top;
+
+// How many bits a step takes with its kind, 0 for no step; the bits of each of its fields, in their order;
+// and the most that its first field may hold, where the others may hold whatever fits.
+pub(crate) struct Layout {
+    pub(crate) width: usize,
+    pub(crate) first: usize,
+    pub(crate) second: usize,
+    pub(crate) third: usize,
+    pub(crate) fourth: usize,
+    pub(crate) most: u64,
+}
+
+// A step of so many fields: its width is their sum with the 3 bits of the kind.
+fn step_of(first: usize, second: usize, third: usize, fourth: usize, most: u64) -> Layout
+    requires { ⌜ first + second + third + fourth ≤ 61 ⌝ }
+    ensures { λ r. ⌜ r ≡ stepOf first second third fourth most ⌝ }
+{
+    Layout {
+        width: 3 + first + second + third + fourth,
+        first: first,
+        second: second,
+        third: third,
+        fourth: fourth,
+        most: most,
+    }
+}
+
+// The layout of a kind.
+pub(crate) fn layout_of(kind: u64) -> Layout
+    ensures { λ r. ⌜ r ≡ row (fields 1 kind) ⌝ }
+{
+    match kind {
+        // Ask: tablet, own notes, added, removed.
+        0 => step_of(3, 8, 16, 16, 7),
+        // Advance: tablet.
+        1 => step_of(3, 0, 0, 0, 7),
+        // Deliver, Lose, Repeat: slot.
+        2 => step_of(7, 0, 0, 0, 127),
+        3 => step_of(7, 0, 0, 0, 127),
+        4 => step_of(7, 0, 0, 0, 127),
+        // Stop: device.
+        5 => step_of(5, 0, 0, 0, 23),
+        // No step.
+        _ => Layout {
+            width: 0,
+            first: 0,
+            second: 0,
+            third: 0,
+            fourth: 0,
+            most: 0,
+        },
+    }
+}
+
+// The fields of a step word hold numbers that they may hold.
+pub(crate) fn in_range(kind: u64, word: u64) -> bool
+    requires { ⌜ (kind ≡ num (take 3 (bits 64 word))) × (width 1 kind ≡ 0 → ⊥) ⌝ }
+    ensures { λ r. ⌜ r ≡ legal 1 (take (width 1 kind) (bits 64 word)) ⌝ }
+{
+    let l = layout_of(kind);
+    field(word, 3, l.first) <= l.most
+}
+
+// How many bits the step in a word takes, or 0 for a word that is none.
+pub(crate) fn step_width(word: u64) -> usize
+    ensures { λ r. ⌜ r ≡ wide 1 word ⌝ }
+{
+    let kind = field(word, 0, 3);
+    let l = layout_of(kind);
+    let w = l.width;
+    if w == 0 {
+        return 0;
+    }
+    if top(word, w) != word {
+        return 0;
+    }
+    if in_range(kind, word) { w } else { 0 }
+}
