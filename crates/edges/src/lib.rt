@@ -1,0 +1,1 @@
+// No code: the edges of the rules are computed in specs/.
