@@ -28,21 +28,20 @@ bool parlour_majority(uint16_t added, uint16_t removed, uint16_t answered);
 
 /* What parlour_tape_check gives. */
 enum parlour_tape_number {
-    PARLOUR_TAPE_GOOD = 0,          /* the tape is a whole recording, and can be played */
-    PARLOUR_TAPE_TOO_LONG = 11,     /* it has over 4,096 bytes */
-    PARLOUR_TAPE_NO_FIRST_BOX = 12, /* its set of first boxes is empty */
+    PARLOUR_TAPE_GOOD = 0,           /* the tape can be played */
+    PARLOUR_TAPE_TOO_LONG = 11,      /* it has over 4,096 bytes */
+    PARLOUR_TAPE_NO_FIRST_BOX = 12,  /* its set of first boxes is empty */
     PARLOUR_TAPE_ENDS_TOO_SOON = 13, /* under three bytes, or a step or the end mark is cut off */
-    PARLOUR_TAPE_NO_STEP = 14,      /* a step of kind 6, or a Stop of a device 24 to 31 */
-    PARLOUR_TAPE_AFTER_END = 15     /* behind the end mark a bit is set or a byte follows */
+    PARLOUR_TAPE_NO_STEP = 14,       /* kind 6, or a Stop of a device 24 to 31 */
+    PARLOUR_TAPE_AFTER_END = 15      /* after the end mark a bit is set or a byte follows */
 };
 
 /* Whether a recorded tape can be read: 0, or the number of the one reason why not, one of those
    above and no other. Where several reasons hold, it is the first in this order: 11; 13 for under
    three bytes; 12; 13 or 14 at the first step that has it; 15.
 
-   `tape` points to `length` bytes that stay as they are during the call. Exactly these may be read,
-   and none is where length is over 4,096. A length of 0 gives 13; `tape` must then still be a
-   pointer to something, and not NULL. */
+   `tape` points to `length` bytes, which no thread changes during the call; no other byte is read.
+   A length of 0 gives 13; `tape` must then too be a valid pointer, to anything, and not NULL. */
 uint8_t parlour_tape_check(const uint8_t *tape, size_t length);
 
 #ifdef __cplusplus

@@ -1,0 +1,66 @@
+-- The promise is not empty: two runs, computed by the rules.
+-- The first is the tape that 01 prints; it hands back a book. A version that refuses all, hands back the first book, does nothing, or merges on
+-- the first delivery only gives another history. The second is 01's edge of two tablets that ask at once: an Advance that begins round 2.
+use mathlib.Core.Path.{_≡_, refl}
+use mathlib.Core.Logic.{inl}
+use mathlib.Core.List.{List, [], _∷_}
+use Rattle.sets.specs.Below.{times, each, unions, those}
+use Rattle.sets.specs.Majority.{weigh, one, majority, majorityOf}
+use Rattle.books.specs.declared.Book.{Book}
+use Rattle.books.specs.Books.{ownNotes, noConfig}
+use Rattle.books.specs.Queried.{first, placeOf, outside, joinedWith, everyMajority, askedBoxes}
+use Rattle.devices.specs.declared.Step.{Step}
+use Rattle.devices.specs.declared.Step.the-variants.{Ask, Advance, Deliver}
+use Rattle.devices.specs.declared.Outcome.{Outcome}
+use Rattle.devices.specs.declared.Outcome.the-variants.{Done, Round, Committed}
+use Rattle.devices.specs.Contents.{merged}
+use Rattle.devices.specs.Effects.{copies, refuse}
+use Rattle.rules.specs.Rules.{begun, askWith, askPair, ask, marked, deliver, decided, allowed, steady, commit, adoptOr, advanceFrom, advance, ruled, effectOf}
+use Rattle.state.specs.Slots.{all, many, laid}
+use Rattle.state.specs.State.{fresh, allDifferent, properDesk, proper}
+use Rattle.parlour.specs.Steps.{hereAt, applied, takenIf, taken}
+use Rattle.promise.specs.Promise.{Event, after, history, HandedBack}
+
+-- the answers of a history, the latest first
+unfoldable answers : List Event → List Outcome
+answers [] = []
+answers (event ∷ earlier) = event .answer ∷ answers earlier
+
+-- the tape `00 07 00 04 00 00 00 01 00 40 50 04 04 8e`, its last step first
+abbrev delivered : List Step
+delivered = Deliver 1 ∷ Deliver 0 ∷ Deliver 1 ∷ Deliver 0 ∷ Ask 0 1 noConfig ∷ []
+
+abbrev printed : List Step
+printed = Advance 0 ∷ delivered
+
+-- "5 ADV 0 C 0000000000000001 0007 0000"
+abbrev book : Book
+book = record { notes = record { set = 0x1 }; config = record { added = 0x7; removed = 0 } }
+
+-- "Tablet 0 asks note 0, tablet 1 asks note 8. Box 0 hears tablet 0 first, and tablet 1 has answers from 0 and 1: its Advance gives R 2"
+abbrev at-once : List Step
+at-once = Advance 1 ∷ Deliver 4 ∷ Deliver 3 ∷ Deliver 4 ∷ Deliver 3 ∷ Deliver 0 ∷ Ask 1 1 noConfig ∷ Ask 0 1 noConfig ∷ []
+
+record Examples : Type 0 where
+  printed-answers : answers (history 0x7 printed) ≡ Committed book ∷ Done ∷ Done ∷ Done ∷ Done ∷ Done ∷ []
+  -- so there is a book that the promise speaks of
+  printed-book : HandedBack (history 0x7 printed)
+  at-once-answers : answers (history 0x7 at-once) ≡ Round 2 ∷ Done ∷ Done ∷ Done ∷ Done ∷ Done ∷ Done ∷ Done ∷ []
+
+examples : Examples
+unfolding answers history after taken takenIf applied hereAt effectOf ruled ask askPair askWith begun marked deliver decided allowed steady
+    commit adoptOr advanceFrom advance refuse copies merged placeOf first outside joinedWith everyMajority askedBoxes times each unions those
+    weigh one majority majorityOf ownNotes fresh allDifferent properDesk proper all many laid
+examples =
+    record {
+      printed-answers = refl;
+      printed-book =
+          record {
+            book = book;
+            event = record { step = Advance 0; answer = Committed book };
+            earlier = history 0x7 delivered;
+            happened = inl (refl, refl);
+            hands-back = inl refl;
+          };
+      at-once-answers = refl;
+    }

@@ -1,0 +1,2 @@
+-- What is promised of every run.
+pub mod Promise

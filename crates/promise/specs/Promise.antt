@@ -1,0 +1,152 @@
+-- Demand 3: what is promised of every run from a fresh start. It is proved in proofs/Promise; two runs are computed in proofs/Example.
+--
+-- A run is any first boxes and any list of steps. The rules (`taken`) answer each step and give the state after it; a refused step leaves
+-- the state as it was. Lost, repeated and late messages and stopped devices are steps like any other, in any number and order, so no clause
+-- has to speak of them. Nothing is assumed of the first boxes or of the numbers in a step: with no first box no run starts (12), and a step
+-- with a number out of range is refused (2), but the promise holds of them too.
+use Prim.Native.Nat.{ℕ, _<_}
+use mathlib.Core.Bool.{Bool, true, false}
+use mathlib.Core.Path.{_≡_}
+use mathlib.Core.Logic.{_⊎_}
+use mathlib.Core.List.{List, [], _∷_}
+use mathlib.Core.Option.{Option, none, some}
+use lib.Dec.{eqb}
+use Rattle.sets.specs.Choice.{pick, both}
+use Rattle.sets.specs.Sets.{digit}
+use Rattle.books.specs.declared.Config.{Config}
+use Rattle.books.specs.declared.Book.{Book}
+use Rattle.books.specs.Books.{owner, ownNotes, noBook, bookInside}
+use Rattle.devices.specs.declared.Step.{Step}
+use Rattle.devices.specs.declared.Step.the-variants.{Ask, Advance, Deliver, Lose, Repeat, Stop}
+use Rattle.devices.specs.declared.Outcome.{Outcome}
+use Rattle.devices.specs.declared.Outcome.the-variants.{Done, Round, Committed, Adopted, Refused}
+use Rattle.state.specs.declared.Run.{Run}
+use Rattle.state.specs.State.{fresh}
+use Rattle.parlour.specs.Steps.{taken}
+
+-- ---- A run and its history
+
+-- a step, and the answer that it got
+pub record Event : Type 0 where
+  pub step : Step
+  pub answer : Outcome
+
+-- the state after some steps from a fresh start; the latest step stands first
+unfoldable pub after : ℕ → List Step → Run
+after first [] = fresh first
+after first (step ∷ earlier) = taken step (after first earlier) .run
+
+-- each step with its answer; the latest stands first
+unfoldable pub history : ℕ → List Step → List Event
+history first [] = []
+history first (step ∷ earlier) =
+    record { step = step; answer = taken step (after first earlier) .outcome } ∷ history first earlier
+
+-- the event is in the history, and these came before it
+abbrev pub Happened : Event → List Event → List Event → Type 0
+Happened event earlier [] = ⊥
+Happened event earlier (latest ∷ before) = ((event ≡ latest) × (earlier ≡ before)) ⊎ Happened event earlier before
+
+-- ---- Books handed back
+
+-- the answer hands back the book, committed or adopted
+abbrev pub HandsBack : Outcome → Book → Type 0
+HandsBack answer book = (answer ≡ Committed book) ⊎ (answer ≡ Adopted book)
+
+-- a book handed back in a history: by which event, and what came before it
+pub record HandedBack (h : List Event) : Type 0 where
+  pub book : Book
+  pub event : Event
+  pub earlier : List Event
+  pub happened : Happened event earlier h
+  pub hands-back : HandsBack (event .answer) book
+
+-- ---- Accepted asks
+
+-- a step is accepted where its answer is no refusal
+abbrev pub accepted : Outcome → Bool
+accepted Done = true
+accepted (Round n) = true
+accepted (Committed b) = true
+accepted (Adopted b) = true
+accepted (Refused n) = false
+
+-- an accepted ask of a history
+pub record AcceptedAsk (h : List Event) : Type 0 where
+  pub tablet : ℕ
+  pub eight : ℕ
+  pub pair : Config
+  pub event : Event
+  pub earlier : List Event
+  pub happened : Happened event earlier h
+  pub step : event .step ≡ Ask tablet eight pair
+  pub answer : accepted (event .answer) ≡ true
+
+-- the step is an ask of the tablet
+abbrev pub isAskOf : ℕ → Step → Bool
+isAskOf t (Ask tablet eight pair) = eqb tablet t
+isAskOf t (Advance tablet) = false
+isAskOf t (Deliver slot) = false
+isAskOf t (Lose slot) = false
+isAskOf t (Repeat slot) = false
+isAskOf t (Stop device) = false
+
+-- what a step brings: an ask its tablet's own notes and its pair, any other step nothing
+abbrev pub brought : Step → Book
+brought (Ask tablet eight pair) = record { notes = ownNotes tablet eight; config = pair }
+brought (Advance tablet) = noBook
+brought (Deliver slot) = noBook
+brought (Lose slot) = noBook
+brought (Repeat slot) = noBook
+brought (Stop device) = noBook
+
+-- the event is an accepted ask of the tablet
+abbrev pub askedBy : ℕ → Event → Bool
+askedBy t event = both (accepted (event .answer)) (isAskOf t (event .step))
+
+-- what the last accepted ask of a tablet brought; none where there was none
+unfoldable pub lastAsk : ℕ → List Event → Option Book
+lastAsk t [] = none
+lastAsk t (event ∷ earlier) = pick (askedBy t event) (some (brought (event .step))) (lastAsk t earlier)
+
+-- ---- What is promised
+
+-- a tablet's Advance handed back the book, and the book contains what the tablet's last accepted ask brought
+pub record ContainsOwnAsk (event : Event) (earlier : List Event) (book : Book) : Type 0 where
+  pub tablet : ℕ
+  pub advance : event .step ≡ Advance tablet
+  pub asked : Book
+  pub last : lastAsk tablet earlier ≡ some asked
+  pub contained : bookInside asked book ≡ true
+
+-- the note was among the own notes of an accepted ask; the ask was of the note's owner, as its eight notes are a number below 2^8
+pub record NoteAsked (note : ℕ) (h : List Event) : Type 0 where
+  pub ask : AcceptedAsk h
+  pub there : digit note (ownNotes (ask .tablet) (ask .eight) .set) ≡ 1
+  pub by-owner : ask .eight < 256 → ask .tablet ≡ owner note
+
+-- an accepted ask added the box, or removed it
+pub record BoxAdded (box : ℕ) (h : List Event) : Type 0 where
+  pub ask : AcceptedAsk h
+  pub there : digit box (ask .pair .added) ≡ 1
+
+pub record BoxRemoved (box : ℕ) (h : List Event) : Type 0 where
+  pub ask : AcceptedAsk h
+  pub there : digit box (ask .pair .removed) ≡ 1
+
+pub record Promise (first : ℕ) (h : List Event) : Type 0 where
+  -- Of any two books handed back one contains the other: notes, added and removed alike.
+  pub one-contains-the-other : (a b : HandedBack h) → (bookInside (a .book) (b .book) ≡ true) ⊎ (bookInside (b .book) (a .book) ≡ true)
+  -- Each book handed back contains what its own ask brought.
+  pub own-ask : (a : HandedBack h) → ContainsOwnAsk (a .event) (a .earlier) (a .book)
+  -- Every note in it came from an earlier accepted ask.
+  pub notes-from-asks : (a : HandedBack h) (note : ℕ) → digit note (a .book .notes .set) ≡ 1 → NoteAsked note (a .earlier)
+  -- Every box added in it is a first box, or an earlier accepted ask added it.
+  pub added-from-asks : (a : HandedBack h) (box : ℕ) → digit box (a .book .config .added) ≡ 1
+      → (digit box first ≡ 1) ⊎ BoxAdded box (a .earlier)
+  -- Every box removed in it was removed by an earlier accepted ask.
+  pub removed-from-asks : (a : HandedBack h) (box : ℕ) → digit box (a .book .config .removed) ≡ 1 → BoxRemoved box (a .earlier)
+
+-- Every run keeps the promise.
+abbrev pub Promised : Type 0
+Promised = (first : ℕ) (steps : List Step) → Promise first (history first steps)
