@@ -4,10 +4,11 @@
 use Prim.Native.Nat.{ℕ}
 use mathlib.Core.Bool.{true}
 use mathlib.Core.Path.{_≡_, refl}
-use Rattle.sets.specs.Sets.{inside}
+use native.Mathlib.Omega.{arith}
+use Rattle.sets.specs.Sets.{digit, union, inside}
 use Rattle.sets.specs.Majority.{one, majorityOf}
 use Rattle.sets.proofs.Semilattice.{Semilattice}
-use Rattle.sets.proofs.SetLaws.{sets-joined}
+use Rattle.sets.proofs.SetLaws.{digit-lt, digit-union, digit-members, sets-joined}
 use Rattle.sets.proofs.BelowLaws.{both-left, both-right, both-on}
 use Rattle.sets.proofs.Parts.{of-one, of-two, Decides, numbers-decided, decided-of-one, decided-of-two}
 use Rattle.sets.proofs.MajorityLaws.{Meet, majorities-meet, no-members-no-majority}
@@ -73,6 +74,17 @@ parts-config-inside a b = both-on (inside (a .added) (b .added)) (inside (a .rem
 -- the book of no notes and no boxes is contained in every one
 pub no-book-inside : (b : Book) → bookInside noBook b ≡ true
 no-book-inside b = books-joined .eq-inside noBook b refl
+
+-- "Once removed, a number never returns": it is no member of whatever the configuration is joined with
+pub removed-never-returns : (c d : Config) (box : ℕ) → digit box (c .removed) ≡ 1 → digit box (membersOf (joinConfigs c d)) ≡ 0
+removed-never-returns c d box h =
+    let n = union (c .added) (d .added) in
+    omega (
+      arith,
+      digit-members box n (union (c .removed) (d .removed)),
+      digit-union box (c .removed) (d .removed),
+      digit-lt box n,
+    )
 
 -- ---- Equality
 
