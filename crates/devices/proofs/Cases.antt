@@ -1,12 +1,10 @@
 -- The cases of the definitions, as equations on plain values: each return of a function cites one.
 use Prim.Native.Nat.{ℕ, _+_, _-_, _*_, _%_, _^_, _≤_, _<_}
-use mathlib.Core.Bool.{true, false}
-use mathlib.Core.Path.{_≡_, refl, sym, ap, _∙_}
+use mathlib.Core.Bool.{false}
+use mathlib.Core.Path.{_≡_, sym, ap, _∙_}
 use native.Mathlib.Omega.{arith}
-use lib.Dec.{ltb, leb}
 use lib.Pow.{shl-exact}
 use borrow.Author.Tests.{lt-ltb, le-ltb, le-leb, lt-leb}
-use Rattle.sets.specs.Choice.{pick, both}
 use Rattle.sets.specs.Sets.{union}
 use Rattle.sets.proofs.BelowLaws.{pick-true, pick-false}
 use Rattle.books.specs.declared.Notes.{Notes}
@@ -18,12 +16,11 @@ use Rattle.devices.specs.declared.Contents.{Contents}
 use Rattle.devices.specs.declared.Letter.{Letter}
 use Rattle.devices.specs.declared.Notice.{Notice}
 use Rattle.devices.specs.declared.Message.{Message}
-use Rattle.devices.specs.declared.Message.the-variants.{Empty, Request, Answer, Commit}
+use Rattle.devices.specs.declared.Message.the-variants.{Request, Answer, Commit}
 use Rattle.devices.specs.declared.Outcome.{Outcome}
 use Rattle.devices.specs.declared.Outcome.the-variants.{Committed, Adopted, Refused}
 use Rattle.devices.specs.declared.Sending.{Sending}
 use Rattle.devices.specs.declared.Here.{Here}
-use Rattle.devices.specs.declared.Effect.{Effect}
 use Rattle.devices.specs.Contents.{merged}
 use Rattle.devices.specs.Effects.{keptAfter, only, boxOf, letterTo, addressed, noSending, refuse}
 

@@ -1,13 +1,10 @@
 -- One step of a run: the rule's effect on the acting device's parts, applied to the run; and the question whether a box may be unplugged.
 use Prim.Native.Nat.{ℕ, _^_}
-use mathlib.Core.Bool.{Bool, true, false}
-use mathlib.Core.List.{List}
-use lib.ListN.{getD, set}
+use mathlib.Core.Bool.{Bool}
 use lib.Dec.{ltb}
+use lib.ListN.{getD, set}
 use Rattle.sets.specs.Choice.{pick}
 use Rattle.sets.specs.Sets.{has, union}
-use Rattle.devices.specs.declared.Contents.{Contents}
-use Rattle.devices.specs.declared.Tablet.{Tablet}
 use Rattle.devices.specs.declared.Message.{Message}
 use Rattle.devices.specs.declared.Here.{Here}
 use Rattle.devices.specs.declared.Effect.{Effect}
@@ -16,7 +13,6 @@ use Rattle.devices.specs.declared.Step.the-variants.{Ask, Advance, Deliver, Los
 use Rattle.devices.specs.Contents.{freshContents, freshTablet}
 use Rattle.devices.specs.Effects.{addressee, keptAfter, messagesOf}
 use Rattle.rules.specs.Rules.{effectOf}
-use Rattle.state.specs.declared.Slot.{Slot}
 use Rattle.state.specs.declared.Run.{Run}
 use Rattle.state.specs.declared.Stepped.{Stepped}
 use Rattle.parlour.specs.declared.Unplug.{Unplug}

@@ -3,12 +3,11 @@ use Prim.Native.Nat.{ℕ, _+_, _*_, _%_, _^_, _≤_, _<_}
 use mathlib.Core.Bool.{Bool, true, false, not}
 use mathlib.Core.Path.{_≡_, refl, sym, ap, _∙_}
 use native.Mathlib.Omega.{arith}
-use lib.Dec.{ltb, eqb}
+use lib.Dec.{eqb}
 use lib.ListN.{set}
 use lib.Pow.{shl-exact}
 use borrow.Author.Tests.{lt-ltb, le-ltb, eq-eqb, ne-eqb}
-use Rattle.sets.specs.Choice.{pick, both}
-use Rattle.sets.specs.Sets.{union}
+use Rattle.sets.specs.Choice.{pick}
 use Rattle.sets.specs.Majority.{weigh, one}
 use Rattle.books.specs.declared.Config.{Config}
 use Rattle.books.specs.declared.Book.{Book}
@@ -24,15 +23,13 @@ use Rattle.devices.specs.declared.Floor.{Floor}
 use Rattle.devices.specs.declared.Floor.the-variants.{Unset, Set}
 use Rattle.devices.specs.declared.Letter.{Letter}
 use Rattle.devices.specs.declared.Message.{Message}
-use Rattle.devices.specs.declared.Message.the-variants.{Empty, Request, Answer, Commit}
 use Rattle.devices.specs.declared.Outcome.{Outcome}
-use Rattle.devices.specs.declared.Outcome.the-variants.{Done, Round}
 use Rattle.devices.specs.declared.Sending.{Sending}
 use Rattle.devices.specs.declared.Here.{Here}
 use Rattle.devices.specs.declared.Effect.{Effect}
 use Rattle.devices.specs.declared.Step.{Step}
 use Rattle.devices.specs.Effects.{boxOf, refuse}
-use Rattle.rules.specs.Rules.{asking, requests, begunWith, begun, askWith, askPair, askIn, heard, deliver, advanceIn, ruled, markedIn, marked, decided, orSet, floorInside}
+use Rattle.rules.specs.Rules.{asking, requests, begun, askWith, askPair, askIn, heard, deliver, advanceIn, ruled, markedIn, marked, decided, orSet, floorInside}
 
 -- ---- Choosing: a result that is what the test picks
 

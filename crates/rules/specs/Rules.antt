@@ -1,12 +1,11 @@
 -- The rules of the steps on the parts of the acting device, in the order of 01, "The steps", with the lines of Figure 2.
 -- Refusals stand in the order of 01, "Order for steps": what is tested first is refused first.
-use Prim.Native.Nat.{ℕ, zero, suc, _+_, _-_, _*_, _^_}
-use mathlib.Core.Bool.{Bool, true, false, not}
+use Prim.Native.Nat.{ℕ, _+_, _-_, _*_, _^_}
+use mathlib.Core.Bool.{Bool, true, false}
 use lib.Dec.{ltb, leb, eqb}
 use Rattle.sets.specs.Choice.{pick, both}
 use Rattle.sets.specs.Sets.{union}
 use Rattle.sets.specs.Majority.{weigh, one}
-use Rattle.books.specs.declared.Notes.{Notes}
 use Rattle.books.specs.declared.Config.{Config}
 use Rattle.books.specs.declared.Book.{Book}
 use Rattle.books.specs.declared.Listed.{Listed}
@@ -20,7 +19,6 @@ use Rattle.devices.specs.declared.Phase.the-variants.{Idle, Asks}
 use Rattle.devices.specs.declared.Floor.{Floor}
 use Rattle.devices.specs.declared.Floor.the-variants.{Unset, Set}
 use Rattle.devices.specs.declared.Letter.{Letter}
-use Rattle.devices.specs.declared.Notice.{Notice}
 use Rattle.devices.specs.declared.Message.{Message}
 use Rattle.devices.specs.declared.Message.the-variants.{Empty, Request, Answer, Commit}
 use Rattle.devices.specs.declared.Outcome.{Outcome}

@@ -1,6 +1,6 @@
 -- The table of message slots (01, "The parlour and what we leave to others", "The steps").
-use Prim.Native.Nat.{ℕ, zero, suc}
-use mathlib.Core.Bool.{Bool, true, false}
+use Prim.Native.Nat.{ℕ, suc}
+use mathlib.Core.Bool.{Bool, true}
 use mathlib.Core.List.{List, [], _∷_}
 use lib.ListN.{set}
 use Rattle.sets.specs.Choice.{pick, both}

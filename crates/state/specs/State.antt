@@ -2,12 +2,12 @@
 use Prim.Native.Nat.{ℕ, _/_, _^_}
 use mathlib.Core.Bool.{Bool, true, false, not}
 use mathlib.Core.List.{List}
-use lib.ListN.{replicate}
 use lib.Dec.{ltb, leb, eqb}
+use lib.ListN.{replicate}
 use Rattle.sets.specs.Choice.{pick, both}
 use Rattle.sets.specs.Below.{each}
 use Rattle.books.specs.declared.Listed.{Listed}
-use Rattle.books.specs.Books.{noConfig, noNotes, sameConfig}
+use Rattle.books.specs.Books.{noConfig, sameConfig}
 use Rattle.books.specs.Queried.{changeAt}
 use Rattle.devices.specs.declared.Contents.{Contents}
 use Rattle.devices.specs.declared.Tablet.{Tablet}

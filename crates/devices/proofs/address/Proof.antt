@@ -1,5 +1,5 @@
-use Rattle.devices.proofs.Cases.{addressed-request, addressed-answer, addressed-commit}
 use borrow.Author.Needs.{needs}
+use Rattle.devices.proofs.Cases.{addressed-request, addressed-answer, addressed-commit}
 use Rattle.devices.proofs.address.Statement.{statement}
 use Rattle.devices.proofs.address.Tie as tie
 

@@ -1,5 +1,5 @@
-use Rattle.devices.proofs.Cases.{box-low, box-in, box-high}
 use borrow.Author.Needs.{needs}
+use Rattle.devices.proofs.Cases.{box-low, box-in, box-high}
 use Rattle.devices.proofs.box_of.Statement.{statement}
 use Rattle.devices.proofs.box_of.Tie as tie
 

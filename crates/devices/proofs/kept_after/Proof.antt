@@ -1,5 +1,5 @@
-use Rattle.devices.proofs.Cases.{kept-committed, kept-adopted}
 use borrow.Author.Needs.{needs}
+use Rattle.devices.proofs.Cases.{kept-committed, kept-adopted}
 use Rattle.devices.proofs.kept_after.Statement.{statement}
 use Rattle.devices.proofs.kept_after.Tie as tie
 

@@ -1,5 +1,4 @@
 use Rattle.devices.proofs.Cases.{merged-is}
-use borrow.Author.Needs.{needs}
 use Rattle.devices.proofs.merge.Statement.{statement}
 use Rattle.devices.proofs.merge.Tie as tie
 

@@ -1,5 +1,5 @@
-use Rattle.devices.proofs.Cases.{only-in, only-out}
 use borrow.Author.Needs.{needs}
+use Rattle.devices.proofs.Cases.{only-in, only-out}
 use Rattle.devices.proofs.only_device.Statement.{statement}
 use Rattle.devices.proofs.only_device.Tie as tie
 

@@ -1,5 +1,4 @@
 use Rattle.devices.proofs.Cases.{refuse-is}
-use borrow.Author.Needs.{needs}
 use Rattle.devices.proofs.refuse_with.Statement.{statement}
 use Rattle.devices.proofs.refuse_with.Tie as tie
 

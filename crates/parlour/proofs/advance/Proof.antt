@@ -1,5 +1,4 @@
 use Rattle.parlour.specs.Steps.{taken}
-use borrow.Author.Needs.{needs}
 use Rattle.parlour.proofs.advance.Statement.{statement}
 use Rattle.parlour.proofs.advance.Tie as tie
 

@@ -1,8 +1,8 @@
 use mathlib.Core.Path.{refl, ap, _∙_}
 use native.Mathlib.Omega.{arith}
+use borrow.Author.Needs.{needs}
 use Rattle.parlour.specs.Steps.{within}
 use Rattle.parlour.proofs.Places.{device-as}
-use borrow.Author.Needs.{needs}
 use Rattle.parlour.proofs.device_of.Statement.{statement}
 use Rattle.parlour.proofs.device_of.Tie as tie
 

@@ -1,6 +1,4 @@
 use Rattle.sets.proofs.BelowLaws.{pick-true, pick-false}
-use mathlib.Core.Path.{refl}
-use borrow.Author.Needs.{needs}
 use Rattle.parlour.proofs.freed.Statement.{statement}
 use Rattle.parlour.proofs.freed.Tie as tie
 

@@ -1,12 +1,10 @@
+use Prim.Native.Nat.{ℕ}
 use mathlib.Core.Path.{ap, _∙_}
 use lib.Dec.{eqb}
-use Prim.Native.Nat.{ℕ}
 use Rattle.state.specs.declared.Stepped.{Stepped}
 use Rattle.state.specs.State.{proper}
 use Rattle.devices.specs.Effects.{numberOf}
-use Rattle.devices.specs.declared.Outcome.{Outcome}
 use Rattle.parlour.proofs.Taking.{stop-24}
-use borrow.Author.Needs.{needs}
 use Rattle.parlour.proofs.is_proper.Statement.{statement}
 use Rattle.parlour.proofs.is_proper.Tie as tie
 

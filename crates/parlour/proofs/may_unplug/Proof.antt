@@ -1,8 +1,8 @@
 use mathlib.Core.Path.{refl, sym, _∙_}
+use borrow.Author.Needs.{needs}
 use borrow.Author.Tests.{lt-ltb, le-ltb, eq-eqb, ne-eqb}
 use Rattle.rules.proofs.Cases.{chosen, passed}
 use Rattle.parlour.specs.Steps.{mayUnplug}
-use borrow.Author.Needs.{needs}
 use Rattle.parlour.proofs.may_unplug.Statement.{statement}
 use Rattle.parlour.proofs.may_unplug.Tie as tie
 

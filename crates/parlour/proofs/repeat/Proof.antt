@@ -1,5 +1,4 @@
 use Rattle.parlour.specs.Steps.{taken}
-use borrow.Author.Needs.{needs}
 use Rattle.parlour.proofs.repeat.Statement.{statement}
 use Rattle.parlour.proofs.repeat.Tie as tie
 

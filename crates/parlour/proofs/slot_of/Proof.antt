@@ -1,7 +1,7 @@
 use mathlib.Core.Path.{refl}
 use native.Mathlib.Omega.{arith}
-use Rattle.parlour.proofs.Places.{slot-as}
 use borrow.Author.Needs.{needs}
+use Rattle.parlour.proofs.Places.{slot-as}
 use Rattle.parlour.proofs.slot_of.Statement.{statement}
 use Rattle.parlour.proofs.slot_of.Tie as tie
 

@@ -1,14 +1,14 @@
+use Prim.Native.Nat.{_+_, _-_, _≤_}
 use mathlib.Core.Bool.{Bool}
-use Rattle.parlour.specs.Steps.{takenIf}
-use borrow.Author.Tests.{eq-eqb, ne-eqb}
-use Rattle.sets.specs.Choice.{both}
-use native.Mathlib.Nat.{zero-add}
-use Prim.Native.Nat.{ℕ, _+_, _-_, _≤_, _<_}
-use mathlib.Core.Path.{_≡_, refl, sym, ap, _∙_}
 use mathlib.Core.Logic.{⊎-elim}
+use mathlib.Core.Path.{_≡_, sym, ap, _∙_}
+use native.Mathlib.Nat.{zero-add}
 use native.Mathlib.Omega.{arith}
 use lib.ListN.{drop, length, length-set}
 use borrow.Author.Needs.{needs}
+use borrow.Author.Tests.{eq-eqb, ne-eqb}
+use Rattle.parlour.specs.Steps.{takenIf}
+use Rattle.sets.specs.Choice.{both}
 use Rattle.books.proofs.Turns.{length-mapped}
 use Rattle.state.specs.Slots.{emptySlot, isFree, many}
 use Rattle.state.proofs.SlotLaws.{many-in, many-out}
@@ -16,21 +16,6 @@ use Rattle.parlour.proofs.Passes.{Scanned, scan-holds, scan-bound, scan
 use Rattle.parlour.proofs.Taking.{Pass, pass-start, pass-skip, pass-filled, pass-free, pass-done, counted-free, take-is}
 use Rattle.parlour.proofs.take.Statement.{statement}
 use Rattle.parlour.proofs.take.Tie as tie
-use Rattle.parlour.proofs.take.Reads as reads
-use Rattle.parlour.proofs.take.Lts as lts
-use Rattle.devices.proofs.address.Reads as address-reads
-use Rattle.devices.proofs.is_empty.Reads as is-empty-reads
-use Rattle.devices.proofs.kept_after.Reads as kept-after-reads
-use Rattle.parlour.proofs.counted.Reads as counted-reads
-use Rattle.parlour.proofs.desk_proper.Reads as desk-proper-reads
-use Rattle.parlour.proofs.device_of.Reads as device-of-reads
-use Rattle.parlour.proofs.freed.Reads as freed-reads
-use Rattle.parlour.proofs.scanned.Reads as scanned-reads
-use Rattle.parlour.proofs.slot_of.Reads as slot-of-reads
-use Rattle.parlour.proofs.stopped_after.Reads as stopped-after-reads
-use Rattle.parlour.proofs.tablet_of.Reads as tablet-of-reads
-use Rattle.rules.proofs.effect_of.Reads as effect-of-reads
-use Rattle.state.proofs.proper_message.Reads as proper-message-reads
 
 abbrev Inv-loop : tie.InvT-loop
 Inv-loop known step run listed n ok₀ all z₀ ok z = (z ≤ all) × (length (run .slots) ≡ 128) × Scanned known run z ok
@@ -53,50 +38,41 @@ Inv-loop3 known run₀ n ok all z at d t end free i outcome sent to p₀ q₀ ru
 abbrev μ-loop3 : tie.MeasureT-loop3
 μ-loop3 known run₀ n ok all z at d t end free i outcome sent to p₀ q₀ run p q = (128 - p) + (24 - q)
 
--- src/lib.rt:141:9
 desk-proper-requires :
     tie.Need-desk-proper-requires Inv-loop μ-loop Inv-loop2 μ-loop2 Inv-loop3 μ-loop3
 desk-proper-requires c κs =
     tt
 
--- src/lib.rt:142:9
 scanned-requires : tie.Need-scanned-requires Inv-loop μ-loop Inv-loop2 μ-loop2 Inv-loop3 μ-loop3
 scanned-requires c κs =
     tt
 
--- src/lib.rt:144:5
 loop-holds : tie.Need-loop-holds Inv-loop μ-loop Inv-loop2 μ-loop2 Inv-loop3 μ-loop3
 loop-holds c =
     (omega arith, search (needs, length-mapped), scan-holds (c .before .before .before .before .before .args .known) (c .before .before .before .before .before .args .t1) (c .before .desk-proper .ensures))
 
--- src/lib.rt:145:17
 mul-s : tie.Need-mul-s Inv-loop μ-loop Inv-loop2 μ-loop2 Inv-loop3 μ-loop3
 mul-s c =
     omega (arith, scan-bound (c .before .before .before .before .before .before .before .args .known) (c .before .before .scanned .ensures))
 
--- src/lib.rt:145:17
 element-copy-out-s :
     tie.Need-element-copy-out-s Inv-loop μ-loop Inv-loop2 μ-loop2 Inv-loop3 μ-loop3
 element-copy-out-s c =
     omega (arith, scan-bound (c .before .before .before .before .before .before .before .args .known) (c .before .before .scanned .ensures))
 
--- src/lib.rt:147:19
 proper-message-requires :
     tie.Need-proper-message-requires Inv-loop μ-loop Inv-loop2 μ-loop2 Inv-loop3 μ-loop3
 proper-message-requires c κs =
     tt
 
--- src/lib.rt:148:9
 add-z : tie.Need-add-z Inv-loop μ-loop Inv-loop2 μ-loop2 Inv-loop3 μ-loop3
 add-z c =
     omega (arith, scan-bound (c .before .before .before .before .before .before .before .before .before .args .known) (c .before .before .before .before .scanned .ensures))
 
--- src/lib.rt:144:5
 loop-less : tie.Need-loop-less Inv-loop μ-loop Inv-loop2 μ-loop2 Inv-loop3 μ-loop3
 loop-less c =
     omega (arith, scan-bound (c .before .before .before .before .before .before .before .before .before .args .known) (c .before .before .before .before .scanned .ensures))
 
--- src/lib.rt:144:5
 loop-again : tie.Need-loop-again Inv-loop μ-loop Inv-loop2 μ-loop2 Inv-loop3 μ-loop3
 loop-again c = (
   omega arith,
@@ -104,98 +80,80 @@ loop-again c = (
   scan-turn (c .before .before .before .before .before .before .before .before .before .args .known) (c .before .before .before .before .before .before .before .before .before .args .t1) (c .before .before .before .loop .z) (c .before .before .before .loop .ok) (c .before .before .before .loop .inv .1) (c .before .before .before .before .scanned .ensures) (c .before .before .loop-test .taken) (ap (both (c .before .before .before .loop .ok)) (c .proper-message .ensures)) (c .before .before .before .loop .inv .2),
 )
 
--- src/lib.rt:150:9
 slot-of-requires : tie.Need-slot-of-requires Inv-loop μ-loop Inv-loop2 μ-loop2 Inv-loop3 μ-loop3
 slot-of-requires c κs =
     tt
 
--- src/lib.rt:151:16
 mul-slot : tie.Need-mul-slot Inv-loop μ-loop Inv-loop2 μ-loop2 Inv-loop3 μ-loop3
 mul-slot c =
     omega (arith, (c .slot-of .ensures .1))
 
--- src/lib.rt:151:16
 element-copy-out-slot :
     tie.Need-element-copy-out-slot Inv-loop μ-loop Inv-loop2 μ-loop2 Inv-loop3 μ-loop3
 element-copy-out-slot c =
     omega (arith, (c .slot-of .ensures .1))
 
--- src/lib.rt:153:9
 device-of-requires :
     tie.Need-device-of-requires Inv-loop μ-loop Inv-loop2 μ-loop2 Inv-loop3 μ-loop3
 device-of-requires c κs =
     tt
 
--- src/lib.rt:154:9
 tablet-of-requires :
     tie.Need-tablet-of-requires Inv-loop μ-loop Inv-loop2 μ-loop2 Inv-loop3 μ-loop3
 tablet-of-requires c κs =
     tt
 
--- src/lib.rt:155:20
 mul-contents : tie.Need-mul-contents Inv-loop μ-loop Inv-loop2 μ-loop2 Inv-loop3 μ-loop3
 mul-contents c =
     omega (arith, (c .before .device-of .ensures .1))
 
--- src/lib.rt:155:20
 element-copy-out-contents :
     tie.Need-element-copy-out-contents Inv-loop μ-loop Inv-loop2 μ-loop2 Inv-loop3 μ-loop3
 element-copy-out-contents c =
     omega (arith, (c .before .device-of .ensures .1))
 
--- src/lib.rt:156:18
 mul-tablet : tie.Need-mul-tablet Inv-loop μ-loop Inv-loop2 μ-loop2 Inv-loop3 μ-loop3
 mul-tablet c =
     omega (arith, (c .before .tablet-of .ensures .1))
 
--- src/lib.rt:156:18
 element-copy-out-tablet :
     tie.Need-element-copy-out-tablet Inv-loop μ-loop Inv-loop2 μ-loop2 Inv-loop3 μ-loop3
 element-copy-out-tablet c =
     omega (arith, (c .before .tablet-of .ensures .1))
 
--- src/lib.rt:157:9
 counted-requires : tie.Need-counted-requires Inv-loop μ-loop Inv-loop2 μ-loop2 Inv-loop3 μ-loop3
 counted-requires c κs =
     tt
 
--- src/lib.rt:160:5
 loop2-holds : tie.Need-loop2-holds Inv-loop μ-loop Inv-loop2 μ-loop2 Inv-loop3 μ-loop3
 loop2-holds c =
     (omega arith, omega arith, zero-add _)
 
--- src/lib.rt:161:17
 mul-s-2 : tie.Need-mul-s-2 Inv-loop μ-loop Inv-loop2 μ-loop2 Inv-loop3 μ-loop3
 mul-s-2 c =
     omega (arith, count-bound (c .before .before .before .before .before .before .before .before .before .before .before .before .before .before .before .before .args .step) (c .before .before .counted .ensures))
 
--- src/lib.rt:161:17
 element-copy-out-s-2 :
     tie.Need-element-copy-out-s-2 Inv-loop μ-loop Inv-loop2 μ-loop2 Inv-loop3 μ-loop3
 element-copy-out-s-2 c =
     omega (arith, count-bound (c .before .before .before .before .before .before .before .before .before .before .before .before .before .before .before .before .args .step) (c .before .before .counted .ensures))
 
--- src/lib.rt:163:12
 is-empty-requires : tie.Need-is-empty-requires Inv-loop μ-loop Inv-loop2 μ-loop2 Inv-loop3 μ-loop3
 is-empty-requires c κs =
     tt
 
--- src/lib.rt:164:13
 add-free : tie.Need-add-free Inv-loop μ-loop Inv-loop2 μ-loop2 Inv-loop3 μ-loop3
 add-free c =
     omega (arith, count-bound (c .before .before .before .before .before .before .before .before .before .before .before .before .before .before .before .before .before .before .before .args .step) (c .before .before .before .before .before .counted .ensures))
 
--- src/lib.rt:166:9
 add-i : tie.Need-add-i Inv-loop μ-loop Inv-loop2 μ-loop2 Inv-loop3 μ-loop3
 add-i c =
     omega (arith, count-bound (c .before .before .before .before .before .before .before .before .before .before .before .before .before .before .before .before .before .before .before .args .step) (c .before .before .before .before .before .counted .ensures))
 
--- src/lib.rt:160:5
 loop2-less : tie.Need-loop2-less Inv-loop μ-loop Inv-loop2 μ-loop2 Inv-loop3 μ-loop3
 loop2-less c =
     omega (arith, count-bound (c .before .before .before .before .before .before .before .before .before .before .before .before .before .before .before .before .before .before .before .args .step) (c .before .before .before .before .before .counted .ensures))
 
--- src/lib.rt:160:5
 loop2-again : tie.Need-loop2-again Inv-loop μ-loop Inv-loop2 μ-loop2 Inv-loop3 μ-loop3
 loop2-again c =
     let xs = (c .before .before .before .before .before .before .before .before .before .before .before .before .before .before .before .before .before .before .before .args .t1 .slots) in
@@ -207,143 +165,117 @@ loop2-again c =
     (λ w. (omega arith, omega (arith, w .1), omega (arith, w .1, (c .before .before .before .before .loop2 .inv .2), many-out isFree emptySlot xs (c .before .before .before .before .loop2 .i) (omega (arith, n)) (sym e ∙ w .0 .left))))
     (c .if1 .came)
 
--- src/lib.rt:177:38
 cast-t61 : tie.Need-cast-t61 Inv-loop μ-loop Inv-loop2 μ-loop2 Inv-loop3 μ-loop3
 cast-t61 c =
     omega (arith, (c .before .before .before .before .before .before .device-of .ensures .1))
 
--- src/lib.rt:177:23
 shr-t62 : tie.Need-shr-t62 Inv-loop μ-loop Inv-loop2 μ-loop2 Inv-loop3 μ-loop3
 shr-t62 c =
     omega (arith, (c .before .before .before .before .before .before .device-of .ensures .1))
 
--- src/lib.rt:168:9
 effect-of-requires :
     tie.Need-effect-of-requires Inv-loop μ-loop Inv-loop2 μ-loop2 Inv-loop3 μ-loop3
 effect-of-requires c κs =
     tt
 
--- src/lib.rt:184:21
 freed-requires : tie.Need-freed-requires Inv-loop μ-loop Inv-loop2 μ-loop2 Inv-loop3 μ-loop3
 freed-requires c κs =
     tt
 
--- src/lib.rt:184:5
 mul-t44 : tie.Need-mul-t44 Inv-loop μ-loop Inv-loop2 μ-loop2 Inv-loop3 μ-loop3
 mul-t44 c =
     omega (arith, (c .before .before .before .before .before .before .before .before .before .before .before .before .before .slot-of .ensures .1))
 
--- src/lib.rt:184:5
 element-set-from-run :
     tie.Need-element-set-from-run Inv-loop μ-loop Inv-loop2 μ-loop2 Inv-loop3 μ-loop3
 element-set-from-run c =
     omega (arith, (c .before .before .before .before .before .before .before .before .before .before .before .before .before .slot-of .ensures .1))
 
--- src/lib.rt:185:5
 mul-contents-after :
     tie.Need-mul-contents-after Inv-loop μ-loop Inv-loop2 μ-loop2 Inv-loop3 μ-loop3
 mul-contents-after c =
     omega (arith, (c .before .before .before .before .before .before .before .before .before .before .before .device-of .ensures .1))
 
--- src/lib.rt:185:5
 element-set-from-contents-after :
     tie.Need-element-set-from-contents-after Inv-loop μ-loop Inv-loop2 μ-loop2 Inv-loop3 μ-loop3
 element-set-from-contents-after c =
     omega (arith, (c .before .before .before .before .before .before .before .before .before .before .before .device-of .ensures .1))
 
--- src/lib.rt:186:5
 mul-tablet-after : tie.Need-mul-tablet-after Inv-loop μ-loop Inv-loop2 μ-loop2 Inv-loop3 μ-loop3
 mul-tablet-after c =
     omega (arith, (c .before .before .before .before .before .before .before .before .before .before .tablet-of .ensures .1))
 
--- src/lib.rt:186:5
 element-set-from-tablet-after :
     tie.Need-element-set-from-tablet-after Inv-loop μ-loop Inv-loop2 μ-loop2 Inv-loop3 μ-loop3
 element-set-from-tablet-after c =
     omega (arith, (c .before .before .before .before .before .before .before .before .before .before .tablet-of .ensures .1))
 
--- src/lib.rt:188:19
 stopped-after-requires :
     tie.Need-stopped-after-requires Inv-loop μ-loop Inv-loop2 μ-loop2 Inv-loop3 μ-loop3
 stopped-after-requires c κs =
     omega (arith, (c .before .before .before .before .before .before .before .before .before .before .before .device-of .ensures .1))
 
--- src/lib.rt:189:16
 kept-after-requires :
     tie.Need-kept-after-requires Inv-loop μ-loop Inv-loop2 μ-loop2 Inv-loop3 μ-loop3
 kept-after-requires c κs =
     tt
 
--- src/lib.rt:195:5
 loop3-holds : tie.Need-loop3-holds Inv-loop μ-loop Inv-loop2 μ-loop2 Inv-loop3 μ-loop3
 loop3-holds c =
     pass-start _ _ _ (length-set (c .before .before .before .before .before .before .before .before .before .before .before .before .before .before .before .before .before .before .before .before .before .before .before .before .before .args .t1 .slots) (c .before .before .before .before .before .before .before .before .before .before .before .before .before .before .before .before .before .slot-of .result) (c .before .before .before .before .freed .result) ∙ (c .before .before .before .before .before .before .before .before .before .before .before .before .before .before .before .before .before .before .before .loop .inv .1))
 
--- src/lib.rt:196:19
 cast-if2 : tie.Need-cast-if2 Inv-loop μ-loop Inv-loop2 μ-loop2 Inv-loop3 μ-loop3
 cast-if2 c =
     omega (arith, left-to-lay (c .before .loop3 .p) (c .before .loop3 .q) (c .loop3-test .taken))
 
--- src/lib.rt:196:13
 shr-if2 : tie.Need-shr-if2 Inv-loop μ-loop Inv-loop2 μ-loop2 Inv-loop3 μ-loop3
 shr-if2 c =
     omega (arith, left-to-lay (c .before .loop3 .p) (c .before .loop3 .q) (c .loop3-test .taken))
 
--- src/lib.rt:197:21
 mul-s-3 : tie.Need-mul-s-3 Inv-loop μ-loop Inv-loop2 μ-loop2 Inv-loop3 μ-loop3
 mul-s-3 c =
     omega (arith, left-to-lay (c .before .before .loop3 .p) (c .before .before .loop3 .q) (c .before .loop3-test .taken))
 
--- src/lib.rt:197:21
 element-copy-out-s-3 :
     tie.Need-element-copy-out-s-3 Inv-loop μ-loop Inv-loop2 μ-loop2 Inv-loop3 μ-loop3
 element-copy-out-s-3 c =
     omega (arith, left-to-lay (c .before .before .loop3 .p) (c .before .before .loop3 .q) (c .before .loop3-test .taken))
 
--- src/lib.rt:199:16
 is-empty-requires-2 :
     tie.Need-is-empty-requires-2 Inv-loop μ-loop Inv-loop2 μ-loop2 Inv-loop3 μ-loop3
 is-empty-requires-2 c κs =
     tt
 
--- src/lib.rt:200:51
 cast-address : tie.Need-cast-address Inv-loop μ-loop Inv-loop2 μ-loop2 Inv-loop3 μ-loop3
 cast-address c =
     omega (arith, left-to-lay (c .before .before .before .before .before .loop3 .p) (c .before .before .before .before .before .loop3 .q) (c .before .before .before .before .loop3-test .taken))
 
--- src/lib.rt:200:21
 address-requires : tie.Need-address-requires Inv-loop μ-loop Inv-loop2 μ-loop2 Inv-loop3 μ-loop3
 address-requires c κs =
     tt
 
--- src/lib.rt:201:17
 mul-t87 : tie.Need-mul-t87 Inv-loop μ-loop Inv-loop2 μ-loop2 Inv-loop3 μ-loop3
 mul-t87 c =
     omega (arith, left-to-lay (c .before .before .before .before .before .before .loop3 .p) (c .before .before .before .before .before .before .loop3 .q) (c .before .before .before .before .before .loop3-test .taken))
 
--- src/lib.rt:201:17
 element-set-from-run-2 :
     tie.Need-element-set-from-run-2 Inv-loop μ-loop Inv-loop2 μ-loop2 Inv-loop3 μ-loop3
 element-set-from-run-2 c =
     omega (arith, left-to-lay (c .before .before .before .before .before .before .loop3 .p) (c .before .before .before .before .before .before .loop3 .q) (c .before .before .before .before .before .loop3-test .taken))
 
--- src/lib.rt:202:17
 add-q : tie.Need-add-q Inv-loop μ-loop Inv-loop2 μ-loop2 Inv-loop3 μ-loop3
 add-q c =
     omega (arith, left-to-lay (c .before .before .before .before .before .before .loop3 .p) (c .before .before .before .before .before .before .loop3 .q) (c .before .before .before .before .before .loop3-test .taken))
 
--- src/lib.rt:204:13
 add-p : tie.Need-add-p Inv-loop μ-loop Inv-loop2 μ-loop2 Inv-loop3 μ-loop3
 add-p c =
     omega (arith, left-to-lay (c .before .before .before .before .before .loop3 .p) (c .before .before .before .before .before .loop3 .q) (c .before .before .before .before .loop3-test .taken))
 
--- src/lib.rt:195:5
 loop3-less : tie.Need-loop3-less Inv-loop μ-loop Inv-loop2 μ-loop2 Inv-loop3 μ-loop3
 loop3-less c =
     let l = left-to-lay (c .before .before .before .before .before .loop3 .p) (c .before .before .before .before .before .loop3 .q) (c .before .before .before .before .loop3-test .taken) in
     ⊎-elim (λ w. omega (arith, w .3)) (λ w. omega (arith, w .2)) (c .if3 .came)
 
--- src/lib.rt:195:5
 loop3-again : tie.Need-loop3-again Inv-loop μ-loop Inv-loop2 μ-loop2 Inv-loop3 μ-loop3
 loop3-again c =
     let l = left-to-lay (c .before .before .before .before .before .loop3 .p) (c .before .before .before .before .before .loop3 .q) (c .before .before .before .before .loop3-test .taken) in
@@ -354,23 +286,19 @@ loop3-again c =
     (λ w. pass-filled _ _ _ (c .before .before .before .before .before .loop3 .p) (c .before .before .before .before .before .loop3 .q) (c .before .before .before .before .before .loop3 .run) l (c .before .before .before .before .before .loop3 .inv) b (sym e ∙ w .0 .left) (w .1) (w .2))
     (c .if3 .came)
 
--- src/lib.rt:206:13
 add-q-2 : tie.Need-add-q-2 Inv-loop μ-loop Inv-loop2 μ-loop2 Inv-loop3 μ-loop3
 add-q-2 c =
     omega (arith, left-to-lay (c .before .before .loop3 .p) (c .before .before .loop3 .q) (c .before .loop3-test .taken))
 
--- src/lib.rt:195:5
 loop3-less-2 : tie.Need-loop3-less-2 Inv-loop μ-loop Inv-loop2 μ-loop2 Inv-loop3 μ-loop3
 loop3-less-2 c =
     omega (arith, left-to-lay (c .before .before .loop3 .p) (c .before .before .loop3 .q) (c .before .loop3-test .taken))
 
--- src/lib.rt:195:5
 loop3-again-2 : tie.Need-loop3-again-2 Inv-loop μ-loop Inv-loop2 μ-loop2 Inv-loop3 μ-loop3
 loop3-again-2 c =
     let l = left-to-lay (c .before .before .loop3 .p) (c .before .before .loop3 .q) (c .before .loop3-test .taken) in
     pass-skip _ _ _ (c .before .before .loop3 .p) (c .before .before .loop3 .q) (c .before .before .loop3 .run) l (c .before .before .loop3 .inv) (ne-eqb _ _ (c .if2 .left))
 
--- src/lib.rt:136:1
 returns : tie.Need-returns Inv-loop μ-loop Inv-loop2 μ-loop2 Inv-loop3 μ-loop3
 returns c =
     let r = (c .before .before .before .before .before .before .before .before .before .before .before .before .before .before .before .before .before .before .before .before .before .before .before .before .before .before .before .args .t1) in

@@ -1,7 +1,6 @@
 use mathlib.Core.Path.{sym, _∙_}
 use Rattle.rules.specs.Rules.{effectOf}
 use Rattle.rules.proofs.Cases.{chosen, passed}
-use borrow.Author.Needs.{needs}
 use Rattle.rules.proofs.effect_of.Statement.{statement}
 use Rattle.rules.proofs.effect_of.Tie as tie
 

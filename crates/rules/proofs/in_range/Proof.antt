@@ -1,7 +1,6 @@
-use mathlib.Core.Path.{refl, sym, ap, _∙_}
-use Rattle.devices.specs.declared.Step.{Step}
-use Rattle.rules.specs.Rules.{inRange}
+use mathlib.Core.Path.{sym, ap}
 use borrow.Author.Needs.{needs}
+use Rattle.rules.specs.Rules.{inRange}
 use Rattle.rules.proofs.in_range.Statement.{statement}
 use Rattle.rules.proofs.in_range.Tie as tie
 

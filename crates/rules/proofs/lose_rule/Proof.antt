@@ -1,7 +1,6 @@
-use mathlib.Core.Path.{refl, sym, _∙_}
+use mathlib.Core.Path.{sym, _∙_}
 use Rattle.rules.specs.Rules.{lose}
 use Rattle.rules.proofs.Cases.{chosen, passed}
-use borrow.Author.Needs.{needs}
 use Rattle.rules.proofs.lose_rule.Statement.{statement}
 use Rattle.rules.proofs.lose_rule.Tie as tie
 

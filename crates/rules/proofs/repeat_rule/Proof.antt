@@ -1,8 +1,7 @@
-use mathlib.Core.Path.{refl, sym, _∙_}
+use mathlib.Core.Path.{sym, _∙_}
 use borrow.Author.Tests.{lt-ltb, le-ltb}
 use Rattle.rules.specs.Rules.{again}
 use Rattle.rules.proofs.Cases.{chosen, passed}
-use borrow.Author.Needs.{needs}
 use Rattle.rules.proofs.repeat_rule.Statement.{statement}
 use Rattle.rules.proofs.repeat_rule.Tie as tie
 

@@ -1,8 +1,6 @@
-use Rattle.rules.proofs.Cases.{ruled-as}
-use mathlib.Core.Path.{refl, sym, ap, _∙_}
-use Rattle.devices.specs.declared.Step.{Step}
-use Rattle.rules.specs.Rules.{ruled}
 use borrow.Author.Needs.{needs}
+use Rattle.rules.proofs.Cases.{ruled-as}
+use Rattle.rules.specs.Rules.{ruled}
 use Rattle.rules.proofs.rule.Statement.{statement}
 use Rattle.rules.proofs.rule.Tie as tie
 

@@ -1,6 +1,5 @@
 use Rattle.rules.specs.Rules.{stop}
 use Rattle.rules.proofs.Cases.{chosen, passed}
-use borrow.Author.Needs.{needs}
 use Rattle.rules.proofs.stop_rule.Statement.{statement}
 use Rattle.rules.proofs.stop_rule.Tie as tie
 

@@ -1,7 +1,7 @@
-use mathlib.Core.Path.{refl, sym, _∙_}
+use mathlib.Core.Path.{sym, _∙_}
+use borrow.Author.Needs.{needs}
 use Rattle.rules.specs.Rules.{adoptOr}
 use Rattle.rules.proofs.Cases.{chosen, passed, begun-9}
-use borrow.Author.Needs.{needs}
 use Rattle.rules.proofs.advances.adopt_or.Statement.{statement}
 use Rattle.rules.proofs.advances.adopt_or.Tie as tie
 

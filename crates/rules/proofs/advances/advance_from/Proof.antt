@@ -1,7 +1,6 @@
-use mathlib.Core.Path.{refl, sym, _∙_}
+use mathlib.Core.Path.{sym, _∙_}
 use Rattle.rules.specs.Rules.{advanceFrom}
 use Rattle.rules.proofs.Cases.{chosen, passed, not-true, not-false}
-use borrow.Author.Needs.{needs}
 use Rattle.rules.proofs.advances.advance_from.Statement.{statement}
 use Rattle.rules.proofs.advances.advance_from.Tie as tie
 

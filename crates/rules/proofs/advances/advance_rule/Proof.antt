@@ -1,9 +1,7 @@
-use Rattle.rules.proofs.Cases.{advance-as}
-use mathlib.Core.Path.{refl, sym, ap, _∙_}
-use Rattle.devices.specs.declared.Phase.{Phase}
-use Rattle.rules.specs.Rules.{advance, advanceIn}
-use Rattle.rules.proofs.Cases.{chosen, passed}
+use mathlib.Core.Path.{sym, _∙_}
 use borrow.Author.Needs.{needs}
+use Rattle.rules.proofs.Cases.{advance-as, chosen, passed}
+use Rattle.rules.specs.Rules.{advance}
 use Rattle.rules.proofs.advances.advance_rule.Statement.{statement}
 use Rattle.rules.proofs.advances.advance_rule.Tie as tie
 

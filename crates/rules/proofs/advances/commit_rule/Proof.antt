@@ -1,7 +1,6 @@
 use borrow.Author.Tests.{lt-ltb, le-ltb}
 use Rattle.rules.specs.Rules.{commit}
 use Rattle.rules.proofs.Cases.{chosen, passed}
-use borrow.Author.Needs.{needs}
 use Rattle.rules.proofs.advances.commit_rule.Statement.{statement}
 use Rattle.rules.proofs.advances.commit_rule.Tie as tie
 

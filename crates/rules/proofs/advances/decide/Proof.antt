@@ -1,5 +1,4 @@
 use Rattle.rules.proofs.Cases.{decided-is}
-use borrow.Author.Needs.{needs}
 use Rattle.rules.proofs.advances.decide.Statement.{statement}
 use Rattle.rules.proofs.advances.decide.Tie as tie
 

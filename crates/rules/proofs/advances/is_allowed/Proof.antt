@@ -1,7 +1,6 @@
 use mathlib.Core.Path.{refl, sym, _∙_}
 use Rattle.rules.specs.Rules.{allowed}
 use Rattle.rules.proofs.Cases.{chosen, passed}
-use borrow.Author.Needs.{needs}
 use Rattle.rules.proofs.advances.is_allowed.Statement.{statement}
 use Rattle.rules.proofs.advances.is_allowed.Tie as tie
 

@@ -1,5 +1,4 @@
 use Rattle.rules.specs.Rules.{steady}
-use borrow.Author.Needs.{needs}
 use Rattle.rules.proofs.advances.is_steady.Statement.{statement}
 use Rattle.rules.proofs.advances.is_steady.Tie as tie
 

@@ -1,5 +1,5 @@
-use Rattle.rules.proofs.Cases.{floor-unset, floor-set}
 use borrow.Author.Needs.{needs}
+use Rattle.rules.proofs.Cases.{floor-unset, floor-set}
 use Rattle.rules.proofs.advances.reached.Statement.{statement}
 use Rattle.rules.proofs.advances.reached.Tie as tie
 

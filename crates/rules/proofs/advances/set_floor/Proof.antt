@@ -1,5 +1,5 @@
-use Rattle.rules.proofs.Cases.{or-set-unset, or-set-set}
 use borrow.Author.Needs.{needs}
+use Rattle.rules.proofs.Cases.{or-set-unset, or-set-set}
 use Rattle.rules.proofs.advances.set_floor.Statement.{statement}
 use Rattle.rules.proofs.advances.set_floor.Tie as tie
 

@@ -1,15 +1,10 @@
-use mathlib.Core.Path.{_≡_}
-use lib.ListN.{length}
+use mathlib.Core.Path.{_≡_, sym, _∙_}
 use native.Mathlib.Omega.{arith}
+use lib.ListN.{length}
+use borrow.Author.Needs.{needs}
 use Rattle.books.proofs.Turns.{length-mapped}
 use Rattle.books.proofs.ListedLaws.{place-le}
 use Rattle.rules.proofs.Cases.{asks-contained, asks-listed, asks-seventh, asks-new}
-use mathlib.Core.Path.{refl, sym, _∙_}
-use borrow.Author.Tests.{lt-ltb, le-ltb}
-use Rattle.books.specs.Queried.{withChange}
-use Rattle.rules.specs.Rules.{askPair}
-use Rattle.rules.proofs.Cases.{chosen, passed}
-use borrow.Author.Needs.{needs}
 use Rattle.rules.proofs.asks.ask_pair.Statement.{statement}
 use Rattle.rules.proofs.asks.ask_pair.Tie as tie
 

@@ -1,9 +1,6 @@
-use Rattle.rules.proofs.Cases.{ask-as}
-use mathlib.Core.Path.{refl, sym, ap, _∙_}
-use Rattle.devices.specs.declared.Phase.{Phase}
-use Rattle.rules.specs.Rules.{ask, askIn}
-use Rattle.rules.proofs.Cases.{chosen, passed}
 use borrow.Author.Needs.{needs}
+use Rattle.rules.proofs.Cases.{ask-as, chosen, passed}
+use Rattle.rules.specs.Rules.{ask}
 use Rattle.rules.proofs.asks.ask_rule.Statement.{statement}
 use Rattle.rules.proofs.asks.ask_rule.Tie as tie
 

@@ -1,5 +1,4 @@
 use Rattle.rules.specs.Rules.{askWith}
-use borrow.Author.Needs.{needs}
 use Rattle.rules.proofs.asks.ask_with.Statement.{statement}
 use Rattle.rules.proofs.asks.ask_with.Tie as tie
 

@@ -1,5 +1,5 @@
-use Rattle.rules.proofs.Cases.{one-change}
 use borrow.Author.Needs.{needs}
+use Rattle.rules.proofs.Cases.{one-change}
 use Rattle.rules.proofs.asks.only_change.Statement.{statement}
 use Rattle.rules.proofs.asks.only_change.Tie as tie
 

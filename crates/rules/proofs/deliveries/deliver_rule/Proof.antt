@@ -1,8 +1,6 @@
-use Rattle.rules.proofs.Cases.{deliver-as}
-use mathlib.Core.Path.{refl, sym, ap, _∙_}
-use Rattle.devices.specs.declared.Message.{Message}
-use Rattle.rules.specs.Rules.{deliver}
 use borrow.Author.Needs.{needs}
+use Rattle.rules.proofs.Cases.{deliver-as}
+use Rattle.rules.specs.Rules.{deliver}
 use Rattle.rules.proofs.deliveries.deliver_rule.Statement.{statement}
 use Rattle.rules.proofs.deliveries.deliver_rule.Tie as tie
 

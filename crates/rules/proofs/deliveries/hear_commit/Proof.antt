@@ -1,6 +1,5 @@
 use Rattle.rules.specs.Rules.{deliver}
 use Rattle.rules.proofs.Cases.{chosen, passed}
-use borrow.Author.Needs.{needs}
 use Rattle.rules.proofs.deliveries.hear_commit.Statement.{statement}
 use Rattle.rules.proofs.deliveries.hear_commit.Tie as tie
 

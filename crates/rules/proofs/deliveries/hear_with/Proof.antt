@@ -1,8 +1,4 @@
 use Rattle.rules.proofs.Cases.{heard-is}
-use mathlib.Core.Path.{ap}
-use Rattle.rules.specs.Rules.{heard}
-use Rattle.devices.specs.declared.Sending.{Sending}
-use borrow.Author.Needs.{needs}
 use Rattle.rules.proofs.deliveries.hear_with.Statement.{statement}
 use Rattle.rules.proofs.deliveries.hear_with.Tie as tie
 

@@ -1,5 +1,5 @@
-use Rattle.rules.proofs.Cases.{marked-idle, marked-own, marked-other}
 use borrow.Author.Needs.{needs}
+use Rattle.rules.proofs.Cases.{marked-idle, marked-own, marked-other}
 use Rattle.rules.proofs.deliveries.mark.Statement.{statement}
 use Rattle.rules.proofs.deliveries.mark.Tie as tie
 

@@ -1,8 +1,8 @@
+use mathlib.Core.Path.{refl}
 use mir.Syntax.{w16}
 use mir.Val.{Fits}
-use mathlib.Core.Path.{refl}
-use Rattle.rules.proofs.Cases.{begun-9, begun-10, begun-0, shifted-8}
 use borrow.Author.Needs.{needs}
+use Rattle.rules.proofs.Cases.{begun-9, begun-10, begun-0, shifted-8}
 use Rattle.rules.proofs.rounds.begin.Statement.{statement}
 use Rattle.rules.proofs.rounds.begin.Tie as tie
 
