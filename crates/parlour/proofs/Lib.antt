@@ -1,3 +1,17 @@
+-- Reading order: each file uses only those above it.
+-- Of the functions: which slot and device a step is about, the passes over the slots, and the stores of one step.
 pub mod Places
 pub mod Passes
 pub mod Taking
+-- Of the rules: sets of one number; what a step may do, case by case; how an ask names its pair; what an effect makes of a run.
+pub mod Single
+pub mod Acts
+pub mod Naming
+pub mod Frame
+-- A step keeps a proper state proper, leaves all others as before, and takes nothing from any device.
+pub mod ProperEffect
+pub mod ProperStays
+pub mod Others
+pub mod Growth
+-- What specs/Statements says, all of it.
+pub mod Statements

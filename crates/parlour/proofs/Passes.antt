@@ -1,5 +1,5 @@
 -- The three passes over the slots in one step, one turn each: the scan for an improper message, the count of free slots, and the laying of messages.
-use Prim.Native.Nat.{ℕ, zero, suc, _+_, _-_, _≤_, _<_}
+use Prim.Native.Nat.{ℕ, suc, _+_, _-_, _≤_, _<_}
 use mathlib.Core.Bool.{Bool, true, false}
 use mathlib.Core.List.{List, [], _∷_}
 use mathlib.Core.Path.{_≡_, refl, sym, ap, _∙_}
@@ -18,7 +18,7 @@ use Rattle.devices.specs.declared.Step.{Step}
 use Rattle.devices.specs.Effects.{addressed, copies}
 use Rattle.state.specs.declared.Slot.{Slot}
 use Rattle.state.specs.declared.Run.{Run}
-use Rattle.state.specs.Slots.{emptySlot, isFree, all, many}
+use Rattle.state.specs.Slots.{emptySlot, isFree, all}
 use Rattle.state.specs.State.{properDesk, proper}
 use Rattle.state.proofs.SlotLaws.{all-turn, all-done, holding, laidFrom, laid-from-none, laid-from-end, laid-store, laid-pass}
 use Rattle.state.proofs.StateLaws.{upToSlot, proper-by-messages}

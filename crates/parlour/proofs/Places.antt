@@ -1,10 +1,11 @@
 -- Which slot, device and tablet a step is about, and what one store leaves: the cases of the small functions.
-use Prim.Native.Nat.{ℕ, _+_, _*_, _%_, _^_, _≤_, _<_}
+use Prim.Native.Nat.{ℕ, _*_, _%_, _^_, _≤_, _<_}
 use mathlib.Core.Bool.{Bool, true, false}
 use mathlib.Core.Path.{_≡_, refl, sym, ap, _∙_}
 use native.Mathlib.Omega.{arith}
+use lib.Dec.{ltb}
 use lib.Pow.{shl-exact}
-use borrow.Author.Tests.{lt-ltb, le-ltb}
+use borrow.Author.Tests.{lt-ltb, le-ltb, ltb-true}
 use Rattle.sets.specs.Choice.{pick}
 use Rattle.sets.specs.Sets.{union}
 use Rattle.sets.proofs.BelowLaws.{pick-true, pick-false}
@@ -17,6 +18,13 @@ within-in bound n h = pick-true n 0 (lt-ltb n bound h)
 
 pub within-out : (bound n : ℕ) → bound ≤ n → 0 ≡ within bound n
 within-out bound n h = pick-false n 0 (le-ltb n bound h)
+
+pub within-lt : (bound n : ℕ) → 0 < bound → within bound n < bound
+within-lt bound n l = go (ltb n bound) refl
+  where
+    go : (t : Bool) → ltb n bound ≡ t → pick t n 0 < bound
+    go true e = ltb-true n bound e
+    go false e = l
 
 -- what holds of a step that was met
 pub slot-as : {s t : Step} {i : ℕ} → s ≡ t → i ≡ slotOf t → i ≡ slotOf s

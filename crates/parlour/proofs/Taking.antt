@@ -2,7 +2,7 @@
 use Prim.Native.Nat.{ℕ, _+_, _^_, _≤_, _<_}
 use mathlib.Core.Bool.{Bool, true, false}
 use mathlib.Core.List.{List}
-use mathlib.Core.Path.{_≡_, refl, sym, ap, ap₂, _∙_}
+use mathlib.Core.Path.{_≡_, refl, ap, _∙_}
 use mathlib.Core.Logic.{_⊎_, inl, inr}
 use native.Mathlib.Nat.{lt-irrefl}
 use native.Mathlib.Omega.{arith}
@@ -11,13 +11,9 @@ use lib.ListN.{getD, set, length, drop, length-set}
 use lib.Seq.{set-getD}
 use Rattle.sets.specs.Choice.{pick, both}
 use Rattle.sets.specs.Sets.{has, union}
-use Rattle.books.specs.declared.Listed.{Listed}
 use Rattle.books.specs.declared.Book.{Book}
-use Rattle.devices.specs.declared.Contents.{Contents}
-use Rattle.devices.specs.declared.Tablet.{Tablet}
 use Rattle.devices.specs.declared.Message.{Message}
 use Rattle.devices.specs.declared.Message.the-variants.{Empty, Request, Answer, Commit}
-use Rattle.devices.specs.declared.Outcome.{Outcome}
 use Rattle.devices.specs.declared.Here.{Here}
 use Rattle.devices.specs.declared.Effect.{Effect}
 use Rattle.devices.specs.declared.Step.{Step}

@@ -32,9 +32,9 @@ use Rattle.agreement.specs.Setting.{Book as AbstractBook, Contents as AbstractC
 use Rattle.agreement.specs.State.{idle, asking, TabletState, Request as AbstractRequest, Network, State}
 use Rattle.agreement.specs.Steps.{Steady, Allowed, with-request, with-commit, goes-on, gets, Floored as AbstractFloored, stays, set, NextRound, Commits, Adopts, next-round, commits, adopts, next}
 use Rattle.promise.specs.Promise.{Event, lastAsk}
-use Rattle.promise.proofs.Single.{none-in-empty}
-use Rattle.promise.proofs.Acts.{begins, toAll, Floored, as-saved, now-set}
-use Rattle.promise.proofs.KeepsFrame.{deviceAt, tabletAt}
+use Rattle.parlour.proofs.Single.{none-in-empty}
+use Rattle.parlour.proofs.Acts.{begins, toAll, Floored, as-saved, now-set}
+use Rattle.parlour.specs.Statements.{deviceAt, tabletAt}
 use Rattle.promise.proofs.Reading.{parlour, asBook, asChanges, asContents, asFloor, book-contained}
 use Rattle.promise.proofs.Changes.{joined-as, allowed-as}
 use Rattle.promise.proofs.History.{beforeAsk, last-stays, before-stays, silent-round, handed-committed, handed-adopted}

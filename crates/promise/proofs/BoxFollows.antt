@@ -23,8 +23,8 @@ use Rattle.agreement.specs.Setting.{Book as AbstractBook, Contents as AbstractC
 use Rattle.agreement.specs.State.{Answer as AbstractAnswer, Network, State}
 use Rattle.agreement.specs.Steps.{Merged, with-answer, with-boxes, box-hears-request, box-hears-commit, next}
 use Rattle.promise.specs.Promise.{Event}
-use Rattle.promise.proofs.KeepsFrame.{deviceAt}
-use Rattle.promise.proofs.KeepsSteps.{to-only}
+use Rattle.parlour.specs.Statements.{deviceAt}
+use Rattle.parlour.proofs.ProperEffect.{to-only}
 use Rattle.promise.proofs.Reading.{parlour, asBook, asContents}
 use Rattle.promise.proofs.Merges.{merged-as, told-as}
 use Rattle.promise.proofs.History.{silent-done}

@@ -9,7 +9,7 @@ use native.Mathlib.Decide.{ℕ-discrete}
 use native.Mathlib.Nat.{lt-irrefl}
 use native.Mathlib.Omega.{arith}
 use lib.Dec.{eqb}
-use borrow.Author.Tests.{lt-ltb, eq-eqb, ne-eqb}
+use borrow.Author.Tests.{eq-eqb, ne-eqb}
 use Rattle.sets.specs.Choice.{pick}
 use Rattle.sets.specs.Sets.{has}
 use Rattle.books.specs.declared.Book.{Book}
@@ -25,8 +25,10 @@ use Rattle.agreement.specs.State.{Phase as AbstractPhase, TabletState, Network,
 use Rattle.agreement.specs.Steps.{OnTablet, OnBox, Run as AbstractRun}
 use Rattle.promise.specs.Promise.{Event, Happened, HandsBack, HandedBack, askedBy, lastAsk}
 use Rattle.promise.proofs.Reading.{parlour, asContents}
-use Rattle.promise.proofs.KeepsFrame.{Sized, deviceAt, tabletAt, device-now, device-other, tablet-now, tablet-other, Source, none, stayed, sent, message-from}
-use Rattle.promise.proofs.KeepsProper.{Proper}
+use Rattle.state.proofs.StateLaws.{Sized, Proper}
+use Rattle.parlour.specs.Statements.{deviceAt, tabletAt}
+use Rattle.parlour.proofs.Places.{within-in}
+use Rattle.parlour.proofs.Frame.{device-now, device-other, tablet-now, tablet-other, Source, none, stayed, sent, message-from}
 use Rattle.promise.proofs.History.{beforeAsk, last-stays, before-stays, ask-stays, Silent}
 use Rattle.promise.proofs.Likeness.{TabletLike, Sent, GotBack, AskedFor, Like, Grows, contents-stay, tablet-stays, More, no-more, sent-stays}
 
@@ -74,12 +76,9 @@ moves-box boxes b x = record { now = replaced-here b x boxes; others = λ q. go 
 
 -- ---- The acting tablet, as the rules see it
 
-pub within-below : (bound n : ℕ) → n < bound → within bound n ≡ n
-within-below bound n l = ap (λ (b : Bool). pick b n 0) (lt-ltb n bound l)
-
 pub tablet-here : {first : AbstractBook parlour} {r : Run} {h : List Event} (now : Standing first r h) (d : ℕ) → d < 8
     → TabletLike (r .listed) (lastAsk d h) (beforeAsk d h) (deviceAt d r) (tabletAt (within 8 d) r) (now .follows .state .tablets d)
-tablet-here now d l = rw (within-below 8 d l) (now .follows .like .tablets d l)
+tablet-here now d l = rw (sym (within-in 8 d l)) (now .follows .like .tablets d l)
 
 pub tablet-is : {t : TabletState parlour} {c : AbstractContents parlour} {round : ℕ} {phase : AbstractPhase parlour} → t .contents ≡ c
     → t .round ≡ round → t .phase ≡ phase → t ≡ record { contents = c; round = round; phase = phase }
@@ -171,11 +170,11 @@ module _ {first : AbstractBook parlour} {r : Run} {h : List Event} (now : Standi
       tablet : (q : ℕ) → q < 8 → Dec (q ≡ d)
           → TabletLike (e .listed) (lastAsk q (event ∷ h)) (beforeAsk q (event ∷ h)) (deviceAt q after) (tabletAt q after) (replaced d t (s .tablets) q)
       tablet q u (yes i) =
-          let x : tabletAt d after ≡ e .tablet = ap (λ (k : ℕ). tabletAt k after) (sym (within-below 8 d l)) ∙ tablet-now slot d e r (now .sized) in
+          let x : tabletAt d after ≡ e .tablet = ap (λ (k : ℕ). tabletAt k after) (within-in 8 d l) ∙ tablet-now slot d e r (now .sized) in
           rw (i, replaced-here d t (s .tablets), device-now slot d e r (now .sized) (omega arith), x) here
       tablet q u (no i) =
           rw (replaced-other d t (s .tablets) q i)
-          (other-tablet q u (device-other slot d e r q i) (tablet-other slot d e r q (λ j. i (j ∙ within-below 8 d l))) (quiet q i))
+          (other-tablet q u (device-other slot d e r q i) (tablet-other slot d e r q (λ j. i (j ∙ sym (within-in 8 d l)))) (quiet q i))
 
   -- a box acts: its contents x are alike, and the tablets are left alone
   pub after-box : (b : ℕ) → b < 16 → d ≡ 8 + b → ((q : ℕ) → askedBy q event ≡ false) → Silent (e .outcome)

@@ -1,12 +1,4 @@
 -- Reading order: each file uses only those above it.
--- Of the rules alone: sets of one number; what a step may do, case by case; how an ask names its pair.
-pub mod Single
-pub mod Acts
-pub mod Naming
--- Of the rules alone: what a step leaves as it was, and that it keeps a proper state proper.
-pub mod KeepsFrame
-pub mod KeepsProper
-pub mod KeepsSteps
 -- How the parlour reads as a setting of the agreement argument.
 pub mod Reading
 pub mod Changes

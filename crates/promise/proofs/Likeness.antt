@@ -33,9 +33,8 @@ use Rattle.agreement.specs.State.{Asking as AbstractAsking, Phase as AbstractPh
 use Rattle.promise.specs.Promise.{Event, HandedBack, AcceptedAsk, lastAsk, brought}
 use Rattle.promise.proofs.Reading.{parlour, asBook, ofBook, asChanges, asContents, asFloor}
 use Rattle.promise.proofs.Changes.{changes-same}
-use Rattle.promise.proofs.KeepsFrame.{deviceAt, tabletAt}
-use Rattle.promise.proofs.KeepsProper.{names-fits}
-use Rattle.promise.proofs.KeepsSteps.{letter-fits}
+use Rattle.state.proofs.StateLaws.{names-lt, letter-fits}
+use Rattle.parlour.specs.Statements.{deviceAt, tabletAt}
 use Rattle.promise.proofs.History.{beforeAsk}
 
 -- ---- The likeness
@@ -140,7 +139,7 @@ module _ {n : ℕ} {before after : Listed} (g : Grows n before after) where
       record {
         config = h .config;
         candidates = h .candidates;
-        changes = h .changes ∙ changes-stay (a .t) (names-fits n (a .t) p);
+        changes = h .changes ∙ changes-stay (a .t) (names-lt n (a .t) p);
         answered = h .answered;
         floor = h .floor;
         asked = h .asked;

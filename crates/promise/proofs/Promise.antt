@@ -15,7 +15,7 @@ use Rattle.agreement.specs.Agreement.{Promises}
 use Rattle.agreement.proofs.Agreement.{agreement}
 use Rattle.promise.specs.Promise.{after, history, HandedBack, ContainsOwnAsk, NoteAsked, BoxAdded, BoxRemoved, Promise, Promised}
 use Rattle.promise.proofs.Reading.{parlour, ofBook, contained-book}
-use Rattle.promise.proofs.Single.{none-in-empty, in-moved}
+use Rattle.parlour.proofs.Single.{none-in-empty, in-moved}
 use Rattle.promise.proofs.Likeness.{GotBack}
 use Rattle.promise.proofs.Following.{Follows}
 use Rattle.promise.proofs.StepFollows.{firstBook, run-stands}

@@ -1,20 +1,17 @@
 -- Every step of the rules is a step of the agreement argument, or none: refused, lost, repeated and stopped leave the argument where it is.
 -- So every run from a fresh start follows the argument (`run-stands`).
-use Prim.Native.Nat.{ℕ, zero, suc, _+_, _<_, _≤_}
+use Prim.Native.Nat.{ℕ, zero, suc, _+_, _<_}
 use mathlib.Core.Bool.{Bool, true, false}
 use mathlib.Core.Path.{_≡_, refl, sym, ap, subst, _∙_}
 use mathlib.Core.List.{List, [], _∷_}
 use native.Mathlib.Omega.{arith}
-use lib.Dec.{ltb, leb}
+use lib.Dec.{ltb}
 use lib.ListN.{getD, replicate, getD-replicate}
-use borrow.Author.Tests.{ltb-true, ltb-false, leb-true}
-use Rattle.sets.specs.Choice.{both}
+use borrow.Author.Tests.{ltb-true, ltb-false}
 use Rattle.sets.specs.Sets.{has}
-use Rattle.sets.proofs.BelowLaws.{both-left, both-right}
-use Rattle.devices.specs.declared.Letter.{Letter}
 use Rattle.devices.specs.declared.Notice.{Notice}
 use Rattle.devices.specs.declared.Message.{Message}
-use Rattle.devices.specs.declared.Message.the-variants.{Request, Answer, Commit}
+use Rattle.devices.specs.declared.Message.the-variants.{Commit}
 use Rattle.devices.specs.declared.Outcome.{Outcome}
 use Rattle.devices.specs.declared.Outcome.the-variants.{Done, Refused}
 use Rattle.devices.specs.declared.Sending.{Sending}
@@ -26,36 +23,26 @@ use Rattle.devices.specs.Effects.{addressed, addressee, only, noSending, refuse
 use Rattle.rules.specs.Rules.{heard}
 use Rattle.state.specs.declared.Run.{Run}
 use Rattle.state.specs.Slots.{emptySlot}
-use Rattle.state.specs.State.{fresh, isTablet, isBox, properLetter, properMessage, proper}
+use Rattle.state.specs.State.{fresh, properMessage, proper}
 use Rattle.parlour.specs.Steps.{within, slotOf, deviceOf, deviceNamed, messageAt, hereAt, applied, takenIf, taken}
 use Rattle.agreement.specs.Setting.{Book as AbstractBook}
 use Rattle.agreement.specs.State.{idle, State, told}
 use Rattle.agreement.specs.Steps.{start}
 use Rattle.promise.specs.Promise.{Event, askedBy, after, history}
 use Rattle.promise.proofs.Reading.{parlour, asBook, changesBelow}
-use Rattle.promise.proofs.Acts.{Acts, refused, asks, hears-request, hears-answer, hears-commit, goes-on, commits, adopts, loses, repeats, stops, acts}
-use Rattle.promise.proofs.KeepsFrame.{sized-fresh, deviceAt, within-lt}
-use Rattle.promise.proofs.KeepsProper.{proper-parts, parts-proper, proper-fresh}
-use Rattle.promise.proofs.KeepsSteps.{to-only, addressed-same, proper-stays, sized-stays}
+use Rattle.parlour.proofs.Acts.{Acts, refused, asks, hears-request, hears-answer, hears-commit, goes-on, commits, adopts, loses, repeats, stops, acts}
+use Rattle.state.proofs.StateLaws.{sized-fresh, proper-parts, parts-proper, fresh-proper, request-to, answer-to}
+use Rattle.parlour.specs.Statements.{deviceAt}
+use Rattle.parlour.proofs.Places.{within-in, within-lt}
+use Rattle.parlour.proofs.ProperEffect.{to-only, addressed-same}
+use Rattle.parlour.proofs.ProperStays.{proper-stays, sized-stays}
 use Rattle.promise.proofs.History.{Silent, silent-done, silent-refused}
 use Rattle.promise.proofs.Likeness.{Sent, same-list}
-use Rattle.promise.proofs.Following.{Follows, Standing, within-below, after-quiet}
+use Rattle.promise.proofs.Following.{Follows, Standing, after-quiet}
 use Rattle.promise.proofs.AskFollows.{ask-follows}
 use Rattle.promise.proofs.BoxFollows.{request-follows, box-commit-follows}
 use Rattle.promise.proofs.TabletFollows.{tablet-commit-follows, answer-follows}
 use Rattle.promise.proofs.AdvanceFollows.{round-follows, commit-follows, adopt-follows}
-
--- whom a proper request and a proper answer go to
-request-to : (n : ℕ) (l : Letter) → properMessage n (Request l) ≡ true → (8 ≤ l .to) × (l .to < 24)
-request-to n l h =
-    let kinds = both-left (both (isTablet (l .from)) (isBox (l .to))) (properLetter n l) h in
-    let box = both-right (isTablet (l .from)) (isBox (l .to)) kinds in
-    (leb-true 8 (l .to) (both-left (leb 8 (l .to)) (ltb (l .to) 24) box), ltb-true (l .to) 24 (both-right (leb 8 (l .to)) (ltb (l .to) 24) box))
-
-answer-to : (n : ℕ) (l : Letter) → properMessage n (Answer l) ≡ true → l .to < 8
-answer-to n l h =
-    let kinds = both-left (both (isBox (l .from)) (isTablet (l .to))) (properLetter n l) h in
-    ltb-true (l .to) 8 (both-right (isBox (l .from)) (isTablet (l .to)) kinds)
 
 module _ {first : AbstractBook parlour} {r : Run} {h : List Event} (now : Standing first r h) (slot d : ℕ) (low : d < 24) where
   abbrev s : State parlour
@@ -109,13 +96,13 @@ module _ {first : AbstractBook parlour} {r : Run} {h : List Event} (now : Standi
 
   -- the device that a step names is the acting one, where there is such a device
   named-here : {n : ℕ} → d ≡ within 24 n → n < 24 → n ≡ d
-  named-here {n} e l = sym (e ∙ within-below 24 n l)
+  named-here {n} e l = within-in 24 n l ∙ sym e
 
-  acts-follow : {step : Step} {m : Message} {e : Effect} → Acts (hereAt d r) step m e → d ≡ deviceOf step m
+  acts-follow : {known : Bool} {step : Step} {m : Message} {e : Effect} → Acts known (hereAt d r) step m e → d ≡ deviceOf step m
       → properMessage (r .listed .count) m ≡ true → Sent (r .listed) (s .network) m
       → Follows first (applied slot d e r .run) (record { step = step; answer = e .outcome } ∷ h)
   unfolding hereAt refuse
-  acts-follow (refused step m n) at q was = quiet-follows step (Refused n) false false noSending (λ k. refl) (silent-refused n) (λ j u i. tt)
+  acts-follow (refused step m n b) at q was = quiet-follows step (Refused n) false false noSending (λ k. refl) (silent-refused n) (λ j u i. tt)
   acts-follow (asks tablet eight pair m listed named l i x naming) at q was =
       ask-follows now slot d tablet eight pair listed named (named-here at (omega arith)) l i naming
   acts-follow (hears-request k l) at q was =
@@ -195,11 +182,11 @@ fresh-follows first =
 
 pub run-stands : (first : ℕ) (steps : List Step) → Standing (firstBook first) (after first steps) (history first steps)
 unfolding after history
-run-stands first [] = record { sized = sized-fresh first; parts = proper-parts (fresh first) (proper-fresh first); follows = fresh-follows first }
+run-stands first [] = record { sized = sized-fresh first; parts = proper-parts (fresh first) (fresh-proper first); follows = fresh-follows first }
 run-stands first (step ∷ earlier) =
     let now = run-stands first earlier in
     record {
       sized = sized-stays step (after first earlier) (now .sized);
-      parts = proper-parts _ (proper-stays step (after first earlier) (now .sized) (parts-proper (after first earlier) (now .parts)));
+      parts = proper-parts _ (proper-stays step (after first earlier) (now .sized .changes) (parts-proper (after first earlier) (now .parts)));
       follows = step-follows step now;
     }

@@ -1,14 +1,13 @@
--- What stays proper where one more change is listed: the list (`different-more`), and all that was proper with fewer (`names-more` .. `message-more`).
-use Prim.Native.Nat.{ℕ, _+_, _*_, _/_, _%_, _^_, _≤_, _<_}
+-- What stays proper where one more change is listed: the list (`different-more`), and all that was proper with fewer (`fits-more` .. `message-more`).
+use Prim.Native.Nat.{ℕ, _+_, _^_, _≤_, _<_}
 use mathlib.Core.Bool.{Bool, true}
 use mathlib.Core.Path.{_≡_, refl, sym, ap, _∙_}
 use mathlib.Core.Logic.{⊎-elim}
-use native.Mathlib.Nat.{mod-lt, div-eq-of-lt, lt-of-lt-of-le, eq-or-lt-of-le}
+use native.Mathlib.Nat.{lt-of-lt-of-le, eq-or-lt-of-le}
 use native.Mathlib.Omega.{arith}
 use lib.ListN.{length}
-use lib.Pow.{pow-pos, pow-mono, split}
+use lib.Pow.{pow-mono}
 use lib.Dec.{leb}
-use borrow.Author.Tests.{eqb-true, eq-eqb}
 use Rattle.sets.specs.Choice.{both}
 use Rattle.sets.proofs.BelowLaws.{both-left, both-right, both-on}
 use Rattle.books.specs.declared.Config.{Config}
@@ -22,7 +21,7 @@ use Rattle.devices.specs.declared.Letter.{Letter}
 use Rattle.devices.specs.declared.Message.{Message}
 use Rattle.devices.specs.declared.Message.the-variants.{Empty, Request, Answer, Commit}
 use Rattle.state.specs.State.{namesListed, allDifferent, properPhase, properTablet, properLetter, properMessage, isTablet, isBox}
-use Rattle.state.proofs.StateLaws.{changes-differ, differ-changes}
+use Rattle.state.proofs.StateLaws.{changes-differ, differ-changes, names-lt, lt-names}
 
 -- a change that is none of the listed ones is listed behind them
 pub different-more : (listed : Listed) (change : Config) → listed .count < length (listed .changes) → allDifferent listed ≡ true
@@ -37,18 +36,12 @@ different-more listed change room h new = differ-changes (withChange listed chan
         (λ b. changes-differ listed h i j l b (before ∙ listed-before listed change j b))
         (eq-or-lt-of-le {n = j} {m = listed .count} (omega arith))
 
--- a set names none but the first n changes exactly where it is below 2^n
-pub names-lt : (n t : ℕ) → namesListed n t ≡ true → t < 2 ^ n
-names-lt n t h =
-    let e : 0 * 2 ^ n + t % 2 ^ n ≡ t = rw (eqb-true (t / 2 ^ n) 0 h) at (split t n) in
-    omega (arith, mod-lt t (pow-pos n))
+module _ {n k : ℕ} (more : n ≤ k) where
+  pub fits-more : {t : ℕ} → t < 2 ^ n → t < 2 ^ k
+  fits-more h = lt-of-lt-of-le h (pow-mono more)
 
-pub lt-names : (n t : ℕ) → t < 2 ^ n → namesListed n t ≡ true
-lt-names n t h = eq-eqb (t / 2 ^ n) 0 (div-eq-of-lt h)
-
-module _ (n k : ℕ) (more : n ≤ k) where
-  pub names-more : (t : ℕ) → namesListed n t ≡ true → namesListed k t ≡ true
-  names-more t h = lt-names k t (lt-of-lt-of-le (names-lt n t h) (pow-mono more))
+  names-more : (t : ℕ) → namesListed n t ≡ true → namesListed k t ≡ true
+  names-more t h = lt-names k t (fits-more (names-lt n t h))
 
   phase-more : (phase : Phase) → properPhase n phase ≡ true → properPhase k phase ≡ true
   phase-more Idle h = refl

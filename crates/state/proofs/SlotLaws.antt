@@ -1,6 +1,7 @@
 -- Laws of the table of slots: of looking through a list by an index, one turn of a loop each, and of laying messages into the lowest free slots.
--- What stands in the table after laying is what stood there, or one of the messages (`laid-at`, `laid-all`); a filled slot stays (`laid-keeps`);
--- where there are free slots enough, every message takes one (`laid-count`). A pass over the slots by an index is `laid-store` and `laid-pass`.
+-- What stands in the table after laying is what stood there, or one of the messages (`laid-at`); a filled slot stays (`laid-keeps`), a free one takes
+-- the message whose number is how many free slots stand before it (`laid-lowest`); where there are free slots enough, every message takes one
+-- (`laid-count`). A pass over the slots by an index is `laid-store` and `laid-pass`.
 use Prim.Native.Nat.{ℕ, zero, suc, _+_, _≤_, _<_}
 use mathlib.Core.Bool.{Bool, true, false, not}
 use mathlib.Core.List.{List, [], _∷_, _++_, append-nil}
@@ -9,13 +10,13 @@ use mathlib.Core.Logic.{_⊎_, inl, inr, ⊎-elim}
 use native.Mathlib.Nat.{lt-irrefl}
 use native.Mathlib.Numerals.{add-one}
 use native.Mathlib.Omega.{arith}
-use lib.ListN.{getD, take, drop, set, length, replicate, drop-of-length-le, take-append-drop}
+use lib.ListN.{getD, take, drop, set, length, drop-of-length-le, take-append-drop}
 use lib.Seq.{drop-cons, take-all, take-suc, take-suc-set, drop-set-lt, append-snoc}
 use borrow.Author.Tests.{not-true}
 use Rattle.sets.specs.Choice.{pick, both}
 use Rattle.sets.proofs.BelowLaws.{both-left, both-right, both-on, both-yes, both-assoc}
 use Rattle.devices.specs.declared.Message.{Message}
-use Rattle.devices.specs.declared.Message.the-variants.{Empty}
+use Rattle.devices.specs.declared.Message.the-variants.{Empty, Request, Answer, Commit}
 use Rattle.devices.specs.Effects.{isEmpty}
 use Rattle.state.specs.declared.Slot.{Slot}
 use Rattle.state.specs.Slots.{emptySlot, isFree, all, many, laid}
@@ -28,12 +29,6 @@ module _ {A : Type 0} (p : A → Bool) (d : A) where
   unfolding all
   all-drop xs i h = rw (drop-cons xs i d h, add-one i)
 
-  pub all-on : (xs : List A) (i : ℕ) → i < length xs → p (getD xs i d) ≡ true → all p (drop i xs) ≡ all p (drop (i + 1) xs)
-  all-on xs i h e = all-drop xs i h ∙ ap (λ (b : Bool). both b (all p (drop (i + 1) xs))) e
-
-  pub all-not : (xs : List A) (i : ℕ) → i < length xs → p (getD xs i d) ≡ false → all p (drop i xs) ≡ false
-  all-not xs i h e = all-drop xs i h ∙ ap (λ (b : Bool). both b (all p (drop (i + 1) xs))) e
-
   -- one turn of a loop that tests one element after the other: the test so far, with what is left to test, stays what it was
   pub all-turn : (xs : List A) (i : ℕ) (ok : Bool) {next total : Bool} → i < length xs → next ≡ both ok (p (getD xs i d))
       → both ok (all p (drop i xs)) ≡ total → both next (all p (drop (i + 1) xs)) ≡ total
@@ -41,47 +36,26 @@ module _ {A : Type 0} (p : A → Bool) (d : A) where
       ap (λ (b : Bool). both b (all p (drop (i + 1) xs))) q ∙ both-assoc ok (p (getD xs i d)) (all p (drop (i + 1) xs))
       ∙ ap (both ok) (sym (all-drop xs i h)) ∙ e
 
-  -- what holds of all holds of each
-  pub all-at : (xs : List A) (i : ℕ) → all p xs ≡ true → i < length xs → p (getD xs i d) ≡ true
+  -- what holds of all holds at each place, and the other way
+  pub all-at : p d ≡ true → (xs : List A) → all p xs ≡ true → (k : ℕ) → p (getD xs k d) ≡ true
   unfolding all
-  all-at [] i e h = absurd (lt-irrefl 0 (omega arith))
-  all-at (x ∷ xs) zero e h = both-left (p x) (all p xs) e
-  all-at (x ∷ xs) (suc i) e h = all-at xs i (both-right (p x) (all p xs) e) (omega arith)
+  all-at e [] h k = e
+  all-at e (x ∷ xs) h zero = both-left (p x) (all p xs) h
+  all-at e (x ∷ xs) h (suc k) = all-at e xs (both-right (p x) (all p xs) h) k
 
-  -- what holds of each holds of all
-  pub at-all : (xs : List A) → ((i : ℕ) → i < length xs → p (getD xs i d) ≡ true) → all p xs ≡ true
+  pub at-all : (xs : List A) → ((k : ℕ) → p (getD xs k d) ≡ true) → all p xs ≡ true
   unfolding all
   at-all [] h = refl
-  at-all (x ∷ xs) h = both-on (p x) (all p xs) (h 0 (omega arith)) (at-all xs (λ i l. h (suc i) (omega arith)))
+  at-all (x ∷ xs) h = both-on (p x) (all p xs) (h zero) (at-all xs (λ k. h (suc k)))
 
 module _ {A : Type 0} (p : A → Bool) where
-  pub all-end : (xs : List A) (i : ℕ) → length xs ≤ i → all p (drop i xs) ≡ true
+  all-end : (xs : List A) (i : ℕ) → length xs ≤ i → all p (drop i xs) ≡ true
   unfolding all
   all-end xs i h = rw (drop-of-length-le xs h)
 
   -- the loop's end: nothing is left to test
   pub all-done : (xs : List A) (i : ℕ) (ok : Bool) {total : Bool} → length xs ≤ i → both ok (all p (drop i xs)) ≡ total → ok ≡ total
   all-done xs i ok h e = sym (both-yes ok) ∙ ap (both ok) (sym (all-end xs i h)) ∙ e
-
-  -- one element replaced by one that passes
-  pub all-set : (xs : List A) (i : ℕ) (y : A) → all p xs ≡ true → p y ≡ true → all p (set xs i y) ≡ true
-  unfolding all
-  all-set [] i y e h = refl
-  all-set (x ∷ xs) zero y e h = both-on (p y) (all p xs) h (both-right (p x) (all p xs) e)
-  all-set (x ∷ xs) (suc i) y e h =
-      both-on (p x) (all p (set xs i y)) (both-left (p x) (all p xs) e) (all-set xs i y (both-right (p x) (all p xs) e) h)
-
-  pub all-replicate : (n : ℕ) (y : A) → p y ≡ true → all p (replicate n y) ≡ true
-  unfolding all
-  all-replicate zero y h = refl
-  all-replicate (suc n) y h = both-on (p y) (all p (replicate n y)) h (all-replicate n y h)
-
--- a weaker test holds of all as well
-pub all-weaker : {A : Type 0} (p q : A → Bool) (xs : List A) → ((x : A) → p x ≡ true → q x ≡ true) → all p xs ≡ true → all q xs ≡ true
-unfolding all
-all-weaker p q [] h e = refl
-all-weaker p q (x ∷ xs) h e =
-    both-on (q x) (all q xs) (h x (both-left (p x) (all p xs) e)) (all-weaker p q xs h (both-right (p x) (all p xs) e))
 
 -- two tests that agree on every element
 pub all-same : {A : Type 0} (p q : A → Bool) (xs : List A) → ((x : A) → p x ≡ q x) → all p xs ≡ all q xs
@@ -92,11 +66,11 @@ all-same p q (x ∷ xs) h = ap₂ both (h x) (all-same p q xs h)
 -- ---- Of how many
 
 module _ {A : Type 0} (p : A → Bool) (x : A) (xs : List A) where
-  pub many-yes : p x ≡ true → many p (x ∷ xs) ≡ suc (many p xs)
+  many-yes : p x ≡ true → many p (x ∷ xs) ≡ suc (many p xs)
   unfolding many
   many-yes e = ap (λ (t : Bool). pick t (suc (many p xs)) (many p xs)) e
 
-  pub many-no : p x ≡ false → many p (x ∷ xs) ≡ many p xs
+  many-no : p x ≡ false → many p (x ∷ xs) ≡ many p xs
   unfolding many
   many-no e = ap (λ (t : Bool). pick t (suc (many p xs)) (many p xs)) e
 
@@ -109,24 +83,12 @@ module _ {A : Type 0} (p : A → Bool) (d : A) where
   unfolding many
   many-out xs i h e = rw (drop-cons xs i d h, e, add-one i)
 
-  -- an element that does not pass replaced by one that does: one more passes
-  pub many-set : (xs : List A) (i : ℕ) (y : A) → i < length xs → p (getD xs i d) ≡ false → p y ≡ true → many p (set xs i y) ≡ suc (many p xs)
-  unfolding many
-  many-set [] i y l e h = absurd (lt-irrefl 0 (omega arith))
-  many-set (x ∷ xs) zero y l e h = rw (e, h)
-  many-set (x ∷ xs) (suc i) y l e h = go (p x) (many-set xs i y (omega arith) e h)
-    where
-      go : (t : Bool) → many p (set xs i y) ≡ suc (many p xs)
-          → pick t (suc (many p (set xs i y))) (many p (set xs i y)) ≡ suc (pick t (suc (many p xs)) (many p xs))
-      go true q = ap suc q
-      go false q = q
-
 module _ {A : Type 0} (p : A → Bool) where
   pub many-end : (xs : List A) (i : ℕ) → length xs ≤ i → many p (drop i xs) ≡ 0
   unfolding many
   many-end xs i h = rw (drop-of-length-le xs h)
 
-  pub many-le : (xs : List A) → many p xs ≤ length xs
+  many-le : (xs : List A) → many p xs ≤ length xs
   unfolding many
   many-le [] = omega arith
   many-le (x ∷ xs) = go (p x) (many-le xs)
@@ -135,28 +97,39 @@ module _ {A : Type 0} (p : A → Bool) where
       go true h = omega arith
       go false h = omega arith
 
+-- ---- One element replaced
+
+-- where what replaces an element is related to it, each element is related to what stands at its place
+pub replaced-at : {A : Type 0} (R : A → A → Type 0) → ((x : A) → R x x) → (d : A) (xs : List A) (i : ℕ) (y : A) → R (getD xs i d) y
+    → (k : ℕ) → R (getD xs k d) (getD (set xs i y) k d)
+replaced-at R same d [] i y h k = same d
+replaced-at R same d (x ∷ xs) zero y h zero = h
+replaced-at R same d (x ∷ xs) zero y h (suc k) = same (getD xs k d)
+replaced-at R same d (x ∷ xs) (suc i) y h zero = same x
+replaced-at R same d (x ∷ xs) (suc i) y h (suc k) = replaced-at R same d xs i y h k
+
 -- ---- Laying messages
 
 -- the slot with a message in it
 abbrev pub holding : Message → Slot
 holding m = record { message = m }
 
-pub laid-none : (slots : List Slot) → laid [] slots ≡ slots
+laid-none : (slots : List Slot) → laid [] slots ≡ slots
 unfolding laid
 laid-none slots = refl
 
-pub laid-nowhere : (ms : List Message) → laid ms [] ≡ []
+laid-nowhere : (ms : List Message) → laid ms [] ≡ []
 unfolding laid
 laid-nowhere [] = refl
 laid-nowhere (m ∷ ms) = refl
 
 module _ (m : Message) (ms : List Message) (s : Slot) (slots : List Slot) where
   -- a free slot takes the next message, a filled one none
-  pub laid-free : isFree s ≡ true → laid (m ∷ ms) (s ∷ slots) ≡ holding m ∷ laid ms slots
+  laid-free : isFree s ≡ true → laid (m ∷ ms) (s ∷ slots) ≡ holding m ∷ laid ms slots
   unfolding laid
   laid-free e = ap (λ (t : Bool). pick t (holding m ∷ laid ms slots) (s ∷ laid (m ∷ ms) slots)) e
 
-  pub laid-filled : isFree s ≡ false → laid (m ∷ ms) (s ∷ slots) ≡ s ∷ laid (m ∷ ms) slots
+  laid-filled : isFree s ≡ false → laid (m ∷ ms) (s ∷ slots) ≡ s ∷ laid (m ∷ ms) slots
   unfolding laid
   laid-filled e = ap (λ (t : Bool). pick t (holding m ∷ laid ms slots) (s ∷ laid (m ∷ ms) slots)) e
 
@@ -210,15 +183,25 @@ laid-at (m ∷ ms) (s ∷ slots) (suc i) =
     (λ e. ⊎-elim (λ q. inl q) (λ o. inr (one-of-more m o)) (laid-at ms slots i))
     (λ e. laid-at (m ∷ ms) slots i)
 
--- a test that all slots and all messages pass is passed by all slots after
-pub laid-all : (p : Slot → Bool) (ms : List Message) (slots : List Slot) → all p slots ≡ true
-    → all (λ (m : Message). p (holding m)) ms ≡ true → all p (laid ms slots) ≡ true
-laid-all p ms slots h k =
-    at-all p emptySlot (laid ms slots)
-    (λ i l.
-    ⊎-elim (λ q. ap p q ∙ all-at p emptySlot slots i h (omega (arith, length-laid ms slots)))
-    (λ o. ap p (o .same) ∙ all-at (λ (m : Message). p (holding m)) Empty ms (o .which) k (o .below))
-    (laid-at ms slots i))
+-- a free slot holds the empty message
+free-empty : (m : Message) → isEmpty m ≡ true → m ≡ Empty
+free-empty Empty e = refl
+free-empty (Request l) e = cc
+free-empty (Answer l) e = cc
+free-empty (Commit n) e = cc
+
+-- a free slot takes the message whose number is how many free slots stand before it, and none where there are no more
+pub laid-lowest : (ms : List Message) (slots : List Slot) (k : ℕ) → k < length slots → isFree (getD slots k emptySlot) ≡ true
+    → getD (laid ms slots) k emptySlot .message ≡ getD ms (many isFree (take k slots)) Empty
+unfolding many
+laid-lowest [] slots k l e = rw (laid-none slots) (free-empty (getD slots k emptySlot .message) e)
+laid-lowest (m ∷ ms) [] k l e = absurd (lt-irrefl 0 (omega arith))
+laid-lowest (m ∷ ms) (s ∷ slots) zero l e = rw (laid-free m ms s slots e)
+laid-lowest (m ∷ ms) (s ∷ slots) (suc k) l e =
+    laid-either m ms s slots
+    (λ (r : List Slot). getD r (suc k) emptySlot .message ≡ getD (m ∷ ms) (many isFree (s ∷ take k slots)) Empty)
+    (λ f. rw (many-yes isFree s (take k slots) f) (laid-lowest ms slots k (omega arith) e))
+    (λ f. rw (many-no isFree s (take k slots) f) (laid-lowest (m ∷ ms) slots k (omega arith) e))
 
 -- where there are free slots enough, every message takes one
 pub laid-count : (ms : List Message) (slots : List Slot) → all (λ (m : Message). not (isEmpty m)) ms ≡ true → length ms ≤ many isFree slots
@@ -250,10 +233,10 @@ pub laid-from-end : (i : ℕ) (ms : List Message) (slots : List Slot) → length
 laid-from-end i ms slots h = rw (drop-of-length-le slots h, laid-nowhere ms, take-all i slots h) (append-nil slots)
 
 module _ (m : Message) (ms : List Message) (slots : List Slot) (i : ℕ) (h : i < length slots) where
-  pub laid-here : isFree (getD slots i emptySlot) ≡ true → laid (m ∷ ms) (drop i slots) ≡ holding m ∷ laid ms (drop (i + 1) slots)
+  laid-here : isFree (getD slots i emptySlot) ≡ true → laid (m ∷ ms) (drop i slots) ≡ holding m ∷ laid ms (drop (i + 1) slots)
   laid-here e = rw (add-one i, drop-cons slots i emptySlot h) (laid-free m ms (getD slots i emptySlot) (drop (suc i) slots) e)
 
-  pub laid-past : isFree (getD slots i emptySlot) ≡ false
+  laid-past : isFree (getD slots i emptySlot) ≡ false
       → laid (m ∷ ms) (drop i slots) ≡ getD slots i emptySlot ∷ laid (m ∷ ms) (drop (i + 1) slots)
   laid-past e = rw (add-one i, drop-cons slots i emptySlot h) (laid-filled m ms (getD slots i emptySlot) (drop (suc i) slots) e)
 

@@ -1,27 +1,24 @@
 -- Laws of how an ask names its pair: the changes listed before stay as they were, all listed changes differ, and the set names the pair
 -- and nothing else.
-use Prim.Native.Nat.{ℕ, _+_, _^_, _<_, _≤_}
-use mathlib.Core.Bool.{Bool, true, not}
-use mathlib.Core.Path.{_≡_, refl, sym, ap, ap₂, _∙_}
-use mathlib.Core.Logic.{_⊎_, inl, inr, ⊎-elim}
-use native.Mathlib.Nat.{le-refl, eq-or-lt-of-le}
+use Prim.Native.Nat.{ℕ, _^_, _<_, _≤_}
+use mathlib.Core.Bool.{true}
+use mathlib.Core.Path.{_≡_, refl, sym, ap, _∙_}
+use mathlib.Core.Logic.{_⊎_, inl, inr}
+use native.Mathlib.Nat.{le-refl}
 use native.Mathlib.Omega.{arith}
 use lib.ListN.{length}
 use lib.Pow.{pow-lt, pow-pos}
 use Rattle.sets.specs.Sets.{has}
-use Rattle.sets.specs.Below.{each}
 use Rattle.sets.proofs.SetLaws.{has-digit, digit-has}
-use Rattle.sets.proofs.BelowLaws.{each-at, at-each}
-use Rattle.sets.proofs.Parts.{ne-same}
 use Rattle.books.specs.declared.Config.{Config}
 use Rattle.books.specs.declared.Listed.{Listed}
-use Rattle.books.specs.Books.{configInside, sameConfig}
+use Rattle.books.specs.Books.{configInside}
 use Rattle.books.specs.Queried.{changeAt, placeOf, withChange}
-use Rattle.books.proofs.BookLaws.{configs-decided}
 use Rattle.books.proofs.ListedLaws.{place-found, place-new, listed-before, listed-last, listed-length}
 use Rattle.state.specs.State.{allDifferent}
-use Rattle.promise.proofs.Single.{none-in-empty, in-single, single-has}
-use Rattle.promise.proofs.Acts.{Naming, contained, listed-already, listed-now}
+use Rattle.state.proofs.ListingLaws.{different-more}
+use Rattle.parlour.proofs.Single.{none-in-empty, in-single, single-has}
+use Rattle.parlour.proofs.Acts.{Naming, contained, listed-already, listed-now}
 
 module _ {config pair : Config} {before : Listed} where
   pub naming-more : {after : Listed} {named : ℕ} → Naming config pair before after named → before .count ≤ after .count
@@ -59,30 +56,9 @@ module _ {config pair : Config} {before : Listed} where
   -- "all different": a change is listed only where it is none of those listed
   pub naming-different : {after : Listed} {named : ℕ} → Naming config pair before after named → length (before .changes) ≡ 6
       → allDifferent before ≡ true → allDifferent after ≡ true
-  unfolding allDifferent withChange
   naming-different (contained e) n h = h
   naming-different (listed-already l) n h = h
-  naming-different (listed-now l f) n h =
-      at-each (before .count + 1) (λ later. each later (differs after later))
-      (λ later u. at-each later (differs after later)
-      (λ earlier v. ⊎-elim (newest earlier later v) (older earlier later v) (let w : later ≤ before .count = omega arith in eq-or-lt-of-le w)))
-    where
-      after : Listed
-      after = withChange before pair
-
-      differs : Listed → ℕ → ℕ → Bool
-      differs listed later earlier = not (sameConfig (changeAt listed earlier) (changeAt listed later))
-
-      older : (earlier later : ℕ) → earlier < later → later < before .count → differs after later earlier ≡ true
-      older earlier later v u =
-          ap₂ (λ (a b : Config). not (sameConfig a b)) (listed-before before pair earlier (omega arith)) (listed-before before pair later u)
-          ∙ each-at later (differs before later) (each-at (before .count) (λ x. each x (differs before x)) h later u) earlier v
-
-      newest : (earlier later : ℕ) → earlier < later → later ≡ before .count → differs after later earlier ≡ true
-      newest earlier later v e =
-          ap₂ (λ (a b : Config). not (sameConfig a b)) (listed-before before pair earlier (omega arith))
-          (ap (changeAt after) e ∙ listed-last before pair (omega arith))
-          ∙ ap not (ne-same configs-decided (changeAt before earlier) pair (place-new before pair earlier (omega arith)))
+  naming-different (listed-now l f) n h = different-more before pair (omega arith) h (λ k u. place-new before pair k (omega arith))
 
   -- the set names the pair and nothing else
   pub naming-only : {after : Listed} {named : ℕ} → Naming config pair before after named → length (before .changes) ≡ 6
@@ -101,3 +77,24 @@ module _ {config pair : Config} {before : Listed} where
       inr (placeOf before pair, omega arith, digit-has (placeOf before pair) _ (single-has (placeOf before pair)), place-found before pair l (omega arith))
   naming-known (listed-now l f) n g =
       inr (before .count, omega arith, digit-has (before .count) _ (single-has (before .count)), listed-last before pair (omega arith))
+
+-- ---- What becomes of the list of changes
+
+-- a step leaves the list, or names a pair in it
+pub data Lists (before : Listed) : Listed → Type 0 where
+  as-before : Lists before before
+  by-ask : {config pair : Config} {after : Listed} {named : ℕ} → Naming config pair before after named → Lists before after
+
+module _ {before : Listed} where
+  -- "never shortened"
+  pub lists-same : {after : Listed} → Lists before after → (k : ℕ) → k < before .count → changeAt before k ≡ changeAt after k
+  lists-same as-before k u = refl
+  lists-same (by-ask n) k u = naming-same n k u
+
+  pub lists-more : {after : Listed} → Lists before after → before .count ≤ after .count
+  lists-more as-before = le-refl _
+  lists-more (by-ask n) = naming-more n
+
+  pub lists-long : {after : Listed} → Lists before after → length (before .changes) ≡ 6 → length (after .changes) ≡ 6
+  lists-long as-before h = h
+  lists-long (by-ask n) h = naming-long n h

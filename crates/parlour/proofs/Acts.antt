@@ -1,8 +1,9 @@
--- What the rules let a step do: a refusal, or one of ten effects, each with the tests that led to it (`Acts`, `acts`).
+-- What the rules let a step do: a refusal, or one of ten effects, each with the tests that led to it (`Acts`, `acts`, and of a run `acts-for`).
 -- Who proves something of all steps goes by these cases, and need not unfold the rules.
 use Prim.Native.Nat.{ℕ, _+_, _-_, _^_, _<_, _≤_}
-use mathlib.Core.Bool.{Bool, true, false}
-use mathlib.Core.Path.{_≡_, refl}
+use mathlib.Core.Bool.{Bool, true, false, true≢false}
+use mathlib.Core.Path.{_≡_, refl, sym, _∙_}
+use native.Mathlib.Omega.{arith}
 use lib.Dec.{ltb}
 use borrow.Author.Tests.{ltb-true, ltb-false, leb-true}
 use Rattle.sets.specs.Choice.{pick}
@@ -31,6 +32,9 @@ use Rattle.devices.specs.declared.Step.the-variants.{Ask, Advance, Deliver, Los
 use Rattle.devices.specs.Contents.{merged, broughtBy}
 use Rattle.devices.specs.Effects.{only, addressee, isEmpty, noSending, refuse}
 use Rattle.rules.specs.Rules.{asking, requests, begun, askWith, askPair, askIn, ask, heard, answerTo, marked, deliver, decided, allowed, steady, orSet, handsBack, commit, floorInside, adoptOr, advanceFrom, advanceIn, advance, leaves, lose, again, stop, inRange, ruled, effectOf}
+use Rattle.state.specs.declared.Run.{Run}
+use Rattle.state.specs.State.{proper}
+use Rattle.parlour.specs.Steps.{slotOf, deviceOf, messageAt, hereAt}
 
 -- ---- The effects
 
@@ -74,28 +78,29 @@ pub data Floored (a : Asking) (h : Here) : Floor → Type 0 where
   now-set : a .floor ≡ Unset → allowed a h ≡ true → steady a h ≡ true → Floored a h (Set (decided h))
 
 -- a step, with the message of the slot that it names, may have this effect where the device stands so
-pub data Acts (h : Here) : Step → Message → Effect → Type 0 where
-  refused : (step : Step) (m : Message) (n : ℕ) → Acts h step m (refuse n h)
+pub data Acts (proper : Bool) (h : Here) : Step → Message → Effect → Type 0 where
+  -- by 1 only where the state is none
+  refused : (step : Step) (m : Message) (n : ℕ) → (proper ≡ true → 2 ≤ n) → Acts proper h step m (refuse n h)
   asks : (tablet eight : ℕ) (pair : Config) (m : Message) (listed : Listed) (named : ℕ) → tablet ≤ 7 → h .tablet .phase ≡ Idle
       → h .tablet .round ≤ 1022 → Naming (h .contents .v .config) pair (h .listed) listed named
-      → Acts h (Ask tablet eight pair) m (begins tablet Done Unset listed (tookIn tablet eight named listed h) h)
-  hears-request : (slot : ℕ) (l : Letter) → Acts h (Deliver slot) (Request l)
+      → Acts proper h (Ask tablet eight pair) m (begins tablet Done Unset listed (tookIn tablet eight named listed h) h)
+  hears-request : (slot : ℕ) (l : Letter) → Acts proper h (Deliver slot) (Request l)
       (heard (merged (h .listed) (h .contents) (l .contents)) (h .tablet) (answerTo l (merged (h .listed) (h .contents) (l .contents))) h)
-  hears-answer : (slot : ℕ) (l : Letter) → Acts h (Deliver slot) (Answer l)
+  hears-answer : (slot : ℕ) (l : Letter) → Acts proper h (Deliver slot) (Answer l)
       (heard (merged (h .listed) (h .contents) (l .contents)) (marked l (h .tablet)) noSending h)
-  hears-commit : (slot : ℕ) (n : Notice) → Acts h (Deliver slot) (Commit n)
+  hears-commit : (slot : ℕ) (n : Notice) → Acts proper h (Deliver slot) (Commit n)
       (heard (merged (h .listed) (h .contents) (broughtBy (n .book))) (h .tablet) noSending h)
   goes-on : (tablet : ℕ) (m : Message) (a : Asking) (floor : Floor) → tablet ≤ 7 → h .tablet .phase ≡ Asks a → h .tablet .round ≤ 1022
-      → Floored a h floor → Acts h (Advance tablet) m (begins tablet (Round (h .tablet .round + 1)) floor (h .listed) (h .contents) h)
+      → Floored a h floor → Acts proper h (Advance tablet) m (begins tablet (Round (h .tablet .round + 1)) floor (h .listed) (h .contents) h)
   commits : (tablet : ℕ) (m : Message) (a : Asking) → tablet ≤ 7 → h .tablet .phase ≡ Asks a → allowed a h ≡ true → steady a h ≡ true
       → sameNotes (h .contents .candidates) (a .candidates) ≡ true
-      → Acts h (Advance tablet) m (handsBack (Committed (decided h)) (toAll tablet (decided h)) h)
+      → Acts proper h (Advance tablet) m (handsBack (Committed (decided h)) (toAll tablet (decided h)) h)
   adopts : (tablet : ℕ) (m : Message) (a : Asking) (floor : Floor) → tablet ≤ 7 → h .tablet .phase ≡ Asks a → Floored a h floor
       → floorInside floor (h .contents .v) ≡ true
-      → Acts h (Advance tablet) m (handsBack (Adopted (h .contents .v)) noSending h)
-  loses : (slot : ℕ) (m : Message) → Acts h (Lose slot) m (leaves true false noSending h)
-  repeats : (slot : ℕ) (m : Message) → Acts h (Repeat slot) m (leaves false false (record { message = m; to = only (addressee m) }) h)
-  stops : (device : ℕ) (m : Message) → Acts h (Stop device) m (leaves false true noSending h)
+      → Acts proper h (Advance tablet) m (handsBack (Adopted (h .contents .v)) noSending h)
+  loses : (slot : ℕ) (m : Message) → Acts proper h (Lose slot) m (leaves true false noSending h)
+  repeats : (slot : ℕ) (m : Message) → Acts proper h (Repeat slot) m (leaves false false (record { message = m; to = only (addressee m) }) h)
+  stops : (device : ℕ) (m : Message) → Acts proper h (Stop device) m (leaves false true noSending h)
 
 -- ---- Every step is one of them
 
@@ -106,49 +111,49 @@ either P false a b f g = g refl
 
 -- begin a round: 9, 10 or the round
 begun-either : (P : Effect → Type 0) (tablet : ℕ) (outcome : Outcome) (floor : Floor) (listed : Listed) (c : Contents) (h : Here)
-    → ((n : ℕ) → P (refuse n h)) → (h .tablet .round ≤ 1022 → P (begins tablet outcome floor listed c h))
+    → ((n : ℕ) → 2 ≤ n → P (refuse n h)) → (h .tablet .round ≤ 1022 → P (begins tablet outcome floor listed c h))
     → P (begun tablet outcome floor listed c h)
 unfolding begun
 begun-either P tablet outcome floor listed c h r f =
-    either P (ltb 1022 (h .tablet .round)) _ _ (λ e. r 9)
-    (λ e. either P (ltb (h .free) _) _ _ (λ d. r 10) (λ d. f (ltb-false 1022 (h .tablet .round) e)))
+    either P (ltb 1022 (h .tablet .round)) _ _ (λ e. r 9 (omega arith))
+    (λ e. either P (ltb (h .free) _) _ _ (λ d. r 10 (omega arith)) (λ d. f (ltb-false 1022 (h .tablet .round) e)))
 
-module _ (m : Message) (h : Here) where
-  ask-acts : (tablet eight : ℕ) (pair : Config) → tablet ≤ 7 → Acts h (Ask tablet eight pair) m (ask tablet eight pair h)
+module _ (proper : Bool) (m : Message) (h : Here) where
+  ask-acts : (tablet eight : ℕ) (pair : Config) → tablet ≤ 7 → Acts proper h (Ask tablet eight pair) m (ask tablet eight pair h)
   unfolding ask askPair askWith
   ask-acts tablet eight pair l =
-      either P (h .stopped) _ _ (λ e. refused _ m 3) (λ e. in-phase (h .tablet .phase) refl)
+      either P (h .stopped) _ _ (λ e. refused _ m 3 (λ p. omega arith)) (λ e. in-phase (h .tablet .phase) refl)
     where
       P : Effect → Type 0
-      P = Acts h (Ask tablet eight pair) m
+      P = Acts proper h (Ask tablet eight pair) m
 
       with-naming : (listed : Listed) (named : ℕ) → h .tablet .phase ≡ Idle → Naming (h .contents .v .config) pair (h .listed) listed named
           → P (askWith tablet eight named listed h)
       with-naming listed named i n =
-          begun-either P tablet Done Unset listed (tookIn tablet eight named listed h) h (refused _ m)
+          begun-either P tablet Done Unset listed (tookIn tablet eight named listed h) h (λ n l. refused _ m n (λ p. l))
           (λ r. asks tablet eight pair m listed named l i r n)
 
       in-phase : (phase : Phase) → h .tablet .phase ≡ phase → P (askIn tablet eight pair phase h)
-      in-phase (Asks a) i = refused _ m 4
+      in-phase (Asks a) i = refused _ m 4 (λ p. omega arith)
       in-phase Idle i =
           either P (configInside pair (h .contents .v .config)) _ _ (λ e. with-naming (h .listed) 0 i (contained e))
           (λ e. either P (ltb (placeOf (h .listed) pair) (h .listed .count)) _ _
           (λ d. with-naming (h .listed) _ i (listed-already (ltb-true _ _ d)))
-          (λ d. either P (ltb 5 (h .listed .count)) _ _ (λ c. refused _ m 8)
+          (λ d. either P (ltb 5 (h .listed .count)) _ _ (λ c. refused _ m 8 (λ p. omega arith))
           (λ c. with-naming (withChange (h .listed) pair) _ i (listed-now (ltb-false _ _ d) (ltb-false _ _ c)))))
 
-  advance-acts : (tablet : ℕ) → tablet ≤ 7 → Acts h (Advance tablet) m (advance tablet h)
+  advance-acts : (tablet : ℕ) → tablet ≤ 7 → Acts proper h (Advance tablet) m (advance tablet h)
   unfolding advance advanceFrom commit adoptOr
   advance-acts tablet l =
-      either P (h .stopped) _ _ (λ e. refused _ m 3) (λ e. in-phase (h .tablet .phase) refl)
+      either P (h .stopped) _ _ (λ e. refused _ m 3 (λ p. omega arith)) (λ e. in-phase (h .tablet .phase) refl)
     where
       P : Effect → Type 0
-      P = Acts h (Advance tablet) m
+      P = Acts proper h (Advance tablet) m
 
       adopt-or : (a : Asking) → h .tablet .phase ≡ Asks a → (floor : Floor) → Floored a h floor → P (adoptOr tablet floor h)
       adopt-or a i floor f =
           either P (floorInside floor (h .contents .v)) _ _ (λ e. adopts tablet m a floor l i f e)
-          (λ e. begun-either P tablet (Round (h .tablet .round + 1)) floor (h .listed) (h .contents) h (refused _ m)
+          (λ e. begun-either P tablet (Round (h .tablet .round + 1)) floor (h .listed) (h .contents) h (λ n l. refused _ m n (λ p. l))
           (λ r. goes-on tablet m a floor l i r f))
 
       or-set : (a : Asking) → allowed a h ≡ true → steady a h ≡ true → (floor : Floor) → a .floor ≡ floor → Floored a h (orSet floor (decided h))
@@ -156,40 +161,59 @@ module _ (m : Message) (h : Here) where
       or-set a p q (Set b) e = as-saved (Set b) e
 
       in-phase : (phase : Phase) → h .tablet .phase ≡ phase → P (advanceIn tablet phase h)
-      in-phase Idle i = refused _ m 5
+      in-phase Idle i = refused _ m 5 (λ p. omega arith)
       in-phase (Asks a) i =
           either P (allowed a h) _ _
           (λ p. either P (steady a h) _ _
           (λ q. either P (sameNotes (h .contents .candidates) (a .candidates)) _ _
-          (λ c. either P (ltb (h .free) 24) _ _ (λ d. refused _ m 10) (λ d. commits tablet m a l i p q c))
+          (λ c. either P (ltb (h .free) 24) _ _ (λ d. refused _ m 10 (λ p. omega arith)) (λ d. commits tablet m a l i p q c))
           (λ c. adopt-or a i _ (or-set a p q (a .floor) refl)))
           (λ q. adopt-or a i (a .floor) (as-saved (a .floor) refl)))
-          (λ p. refused _ m 6)
+          (λ p. refused _ m 6 (λ p. omega arith))
 
-deliver-acts : (slot : ℕ) (m : Message) (h : Here) → Acts h (Deliver slot) m (deliver m h)
+deliver-acts : (proper : Bool) (slot : ℕ) (m : Message) (h : Here) → Acts proper h (Deliver slot) m (deliver m h)
 unfolding deliver
-deliver-acts slot Empty h = refused _ Empty 7
-deliver-acts slot (Request l) h =
-    either (Acts h (Deliver slot) (Request l)) (h .stopped) _ _ (λ e. refused _ (Request l) 3) (λ e. hears-request slot l)
-deliver-acts slot (Answer l) h =
-    either (Acts h (Deliver slot) (Answer l)) (h .stopped) _ _ (λ e. refused _ (Answer l) 3) (λ e. hears-answer slot l)
-deliver-acts slot (Commit n) h =
-    either (Acts h (Deliver slot) (Commit n)) (h .stopped) _ _ (λ e. refused _ (Commit n) 3) (λ e. hears-commit slot n)
+deliver-acts proper slot Empty h = refused _ Empty 7 (λ p. omega arith)
+deliver-acts proper slot (Request l) h =
+    either (Acts proper h (Deliver slot) (Request l)) (h .stopped) _ _ (λ e. refused _ (Request l) 3 (λ p. omega arith)) (λ e. hears-request slot l)
+deliver-acts proper slot (Answer l) h =
+    either (Acts proper h (Deliver slot) (Answer l)) (h .stopped) _ _ (λ e. refused _ (Answer l) 3 (λ p. omega arith)) (λ e. hears-answer slot l)
+deliver-acts proper slot (Commit n) h =
+    either (Acts proper h (Deliver slot) (Commit n)) (h .stopped) _ _ (λ e. refused _ (Commit n) 3 (λ p. omega arith)) (λ e. hears-commit slot n)
 
-ruled-acts : (step : Step) (m : Message) (h : Here) → inRange step ≡ true → Acts h step m (ruled step m h)
+ruled-acts : (proper : Bool) (step : Step) (m : Message) (h : Here) → inRange step ≡ true → Acts proper h step m (ruled step m h)
 unfolding ruled lose again stop
-ruled-acts (Ask tablet eight pair) m h e = ask-acts m h tablet eight pair (leb-true tablet 7 e)
-ruled-acts (Advance tablet) m h e = advance-acts m h tablet (leb-true tablet 7 e)
-ruled-acts (Deliver slot) m h e = deliver-acts slot m h
-ruled-acts (Lose slot) m h e = either (Acts h (Lose slot) m) (isEmpty m) _ _ (λ d. refused _ m 7) (λ d. loses slot m)
-ruled-acts (Repeat slot) m h e =
-    either (Acts h (Repeat slot) m) (isEmpty m) _ _ (λ d. refused _ m 7)
-    (λ d. either (Acts h (Repeat slot) m) (ltb (h .free) 1) _ _ (λ c. refused _ m 10) (λ c. repeats slot m))
-ruled-acts (Stop device) m h e = either (Acts h (Stop device) m) (h .stopped) _ _ (λ d. refused _ m 3) (λ d. stops device m)
+ruled-acts proper (Ask tablet eight pair) m h e = ask-acts proper m h tablet eight pair (leb-true tablet 7 e)
+ruled-acts proper (Advance tablet) m h e = advance-acts proper m h tablet (leb-true tablet 7 e)
+ruled-acts proper (Deliver slot) m h e = deliver-acts proper slot m h
+ruled-acts proper (Lose slot) m h e = either (Acts proper h (Lose slot) m) (isEmpty m) _ _ (λ d. refused _ m 7 (λ p. omega arith)) (λ d. loses slot m)
+ruled-acts proper (Repeat slot) m h e =
+    either (Acts proper h (Repeat slot) m) (isEmpty m) _ _ (λ d. refused _ m 7 (λ p. omega arith))
+    (λ d. either (Acts proper h (Repeat slot) m) (ltb (h .free) 1) _ _ (λ c. refused _ m 10 (λ p. omega arith)) (λ c. repeats slot m))
+ruled-acts proper (Stop device) m h e = either (Acts proper h (Stop device) m) (h .stopped) _ _ (λ d. refused _ m 3 (λ p. omega arith)) (λ d. stops device m)
 
-pub acts : (proper : Bool) (step : Step) (m : Message) (h : Here) → Acts h step m (effectOf proper step m h)
+pub acts : (proper : Bool) (step : Step) (m : Message) (h : Here) → Acts proper h step m (effectOf proper step m h)
 unfolding effectOf
 acts proper step m h =
-    either (Acts h step m) proper _ _
-    (λ e. either (Acts h step m) (inRange step) _ _ (ruled-acts step m h) (λ d. refused step m 2))
-    (λ e. refused step m 1)
+    either (Acts proper h step m) proper _ _
+    (λ e. either (Acts proper h step m) (inRange step) _ _ (ruled-acts proper step m h) (λ d. refused step m 2 (λ p. omega arith)))
+    (λ e. refused step m 1 (λ p. absurd (true≢false (sym p ∙ e))))
+
+-- ---- A step of a run
+
+module _ (step : Step) (r : Run) where
+  -- the message of the slot that the step names, the device that it is about, what the rules see there, and what they do
+  abbrev pub messageFor : Message
+  messageFor = messageAt (slotOf step) r
+
+  abbrev pub deviceFor : ℕ
+  deviceFor = deviceOf step messageFor
+
+  abbrev pub hereFor : Here
+  hereFor = hereAt deviceFor r
+
+  abbrev pub effectFor : Effect
+  effectFor = effectOf (proper r) step messageFor hereFor
+
+  pub acts-for : Acts (proper r) hereFor step messageFor effectFor
+  acts-for = acts (proper r) step messageFor hereFor

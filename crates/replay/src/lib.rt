@@ -1,0 +1,81 @@
+// A recorded tape played: which step a word of the reader's row is, and that step taken.
+use books::Config;
+use devices::Outcome;
+use devices::Step;
+use state::Run;
+use state::Stepped;
+use tape::Fields;
+use tape::Written;
+ghost use mathlib.Core.Path.{_≡_};
+ghost use Rattle.replay.specs.Replay.{isStep, ofFields, stepOf, played};
+ghost use Rattle.replay.specs.Working.{Small};
+
+// The step that a word is, or that it is none.
+pub enum Decoded {
+    Step(Step),
+    NoStep,
+}
+
+// Whether a word is a step. The tape's writer judges it: alone it is refused by 14 where it is none, else by 16, for want of room.
+fn is_step(word: u64) -> bool
+    ensures { λ r. ⌜ r ≡ isStep word ⌝ }
+{
+    let words = [word];
+    let mut room = [0u8; 1];
+    let written = tape::write_tape(1, &words, &mut room);
+    match written {
+        Written::Bytes(_) => true,
+        Written::Refused(number) => number != 14,
+    }
+}
+
+// The step of a kind and its fields.
+fn of_fields(f: Fields) -> Decoded
+    requires { ⌜ Small f ⌝ }
+    ensures { λ r. ⌜ r ≡ ofFields f ⌝ }
+{
+    let kind = f.kind;
+    match kind {
+        0 => {
+            let pair = Config {
+                added: f.third as u16,
+                removed: f.fourth as u16,
+            };
+            Decoded::Step(Step::Ask {
+                tablet: f.first as u8,
+                notes: f.second as u8,
+                pair: pair,
+            })
+        }
+        1 => Decoded::Step(Step::Advance(f.first as u8)),
+        2 => Decoded::Step(Step::Deliver(f.first as u8)),
+        3 => Decoded::Step(Step::Lose(f.first as u8)),
+        4 => Decoded::Step(Step::Repeat(f.first as u8)),
+        5 => Decoded::Step(Step::Stop(f.first as u8)),
+        _ => Decoded::NoStep,
+    }
+}
+
+// The step that a word is.
+pub fn decode(word: u64) -> Decoded
+    ensures { λ r. ⌜ r ≡ stepOf word ⌝ }
+{
+    if is_step(word) {
+        return of_fields(tape::fields_of(word));
+    }
+    Decoded::NoStep
+}
+
+// The step of a word taken; 14 for a word that is none.
+pub fn play_word(run: Run, word: u64) -> Stepped
+    ensures { λ r. ⌜ r ≡ played word run ⌝ }
+{
+    let decoded = decode(word);
+    match decoded {
+        Decoded::Step(step) => parlour::step(run, step),
+        Decoded::NoStep => Stepped {
+            outcome: Outcome::Refused(14),
+            run: run,
+        },
+    }
+}
