@@ -1,9 +1,7 @@
 -- Which step a word of the reader's row is, and a word played (01, "The tape").
 use Prim.Native.Nat.{ℕ}
-use mathlib.Core.Bool.{Bool}
 use mathlib.Core.List.{List, [], _∷_}
 use lib.ListN.{getD}
-use lib.Dec.{ltb}
 use Rattle.sets.specs.Choice.{pick}
 use Rattle.devices.specs.declared.Step.the-variants.{Ask, Advance, Deliver, Lose, Repeat, Stop}
 use Rattle.devices.specs.declared.Outcome.the-variants.{Refused}
@@ -12,13 +10,9 @@ use Rattle.state.specs.declared.Stepped.{Stepped}
 use Rattle.parlour.specs.Steps.{taken}
 use Rattle.tape.specs.declared.Fields.{Fields}
 use Rattle.tape.specs.Layout.{fieldsIn}
-use Rattle.tape.specs.Writing.{wide}
+use Rattle.tape.specs.Writing.{isStep}
 use Rattle.replay.specs.declared.Decoded.{Decoded}
 use Rattle.replay.specs.declared.Decoded.the-variants as D
-
--- the word has a step's tape bits at its top and zeros below; else it is "a step word that is none"
-abbrev pub isStep : ℕ → Bool
-isStep word = ltb 0 (wide 1 word)
 
 -- "each a 3-bit kind and its fields": the steps of these fields, from kind 0 on
 abbrev pub kinds : Fields → List Decoded
@@ -37,7 +31,7 @@ ofFields f = getD (kinds f) (f .kind) D.NoStep
 
 -- the step that a word is
 unfoldable pub stepOf : ℕ → Decoded
-stepOf word = pick (isStep word) (ofFields (fieldsIn 1 word)) D.NoStep
+stepOf word = pick (isStep 1 word) (ofFields (fieldsIn 1 word)) D.NoStep
 
 -- the step taken; a word that is none is refused by 14, and "state and buffers stay as given"
 abbrev pub playedBy : Decoded → Run → Stepped

@@ -5,28 +5,14 @@ use devices::Step;
 use state::Run;
 use state::Stepped;
 use tape::Fields;
-use tape::Written;
 ghost use mathlib.Core.Path.{_≡_};
-ghost use Rattle.replay.specs.Replay.{isStep, ofFields, stepOf, played};
+ghost use Rattle.replay.specs.Replay.{ofFields, stepOf, played};
 ghost use Rattle.replay.specs.Working.{Small};
 
 // The step that a word is, or that it is none.
 pub enum Decoded {
     Step(Step),
     NoStep,
-}
-
-// Whether a word is a step. The tape's writer judges it: alone it is refused by 14 where it is none, else by 16, for want of room.
-fn is_step(word: u64) -> bool
-    ensures { λ r. ⌜ r ≡ isStep word ⌝ }
-{
-    let words = [word];
-    let mut room = [0u8; 1];
-    let written = tape::write_tape(1, &words, &mut room);
-    match written {
-        Written::Bytes(_) => true,
-        Written::Refused(number) => number != 14,
-    }
 }
 
 // The step of a kind and its fields.
@@ -60,7 +46,7 @@ fn of_fields(f: Fields) -> Decoded
 pub fn decode(word: u64) -> Decoded
     ensures { λ r. ⌜ r ≡ stepOf word ⌝ }
 {
-    if is_step(word) {
+    if tape::is_step(word) {
         return of_fields(tape::fields_of(word));
     }
     Decoded::NoStep

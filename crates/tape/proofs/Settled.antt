@@ -2,6 +2,7 @@
 -- And the tape check gives the number that reading gives with a row long enough.
 use mathlib.Core.Path.{_≡_, refl, sym, ap, ap₂, _∙_}
 use Prim.Native.Nat.{ℕ, _≤_}
+use mathlib.Core.Bool.{Bool}
 use mathlib.Core.List.{List, [], _∷_}
 use native.Mathlib.Omega.{arith}
 use lib.ListN.{length}
@@ -9,6 +10,7 @@ use borrow.Author.Tests.{le-leb}
 use Rattle.tape.specs.Bits.{fieldAt}
 use Rattle.tape.specs.Layout.{fieldsIn}
 use Rattle.tape.specs.Reading.{Outcome, given, refused, readTape, firstBoxes}
+use Rattle.tape.specs.Writing.{isStep}
 use Rattle.tape.specs.Promises.{readAnswer, writtenAnswer, answerWith, number, CheckPromise, ReadPromise, WritePromise}
 use Rattle.tape.specs.declared.Read.{Read}
 use Rattle.tape.specs.declared.Read.the-variants as R
@@ -47,6 +49,9 @@ field-settled x from width r s a b = a ∙ sym b
 
 pub fields-settled : (x : ℕ) (r s : Fields) → r ≡ fieldsIn 1 x → s ≡ fieldsIn 1 x → r ≡ s
 fields-settled x r s a b = a ∙ sym b
+
+pub is-step-settled : (x : ℕ) (r s : Bool) → r ≡ isStep 1 x → s ≡ isStep 1 x → r ≡ s
+is-step-settled x r s a b = a ∙ sym b
 
 number-of : (n : ℕ) (vs : List ℕ → List ℕ) (o : Outcome) → ((xs : List ℕ) → o ≡ given xs → length xs ≤ n) → answerWith n vs o .number ≡ number o
 number-of n vs (given xs) h = simp (le-leb _ _ (h xs refl))

@@ -25,10 +25,14 @@ wide ed x = widthBy (readAt ed (bits 64 x) 0) x
 unfoldable pub stepBits : ℕ → ℕ → List Bool
 stepBits ed x = take (wide ed x) (bits 64 x)
 
+-- a word is a step; else it is "a step word that is none"
+abbrev pub isStep : ℕ → ℕ → Bool
+isStep ed x = ltb 0 (wide ed x)
+
 -- every word is a step
 unfoldable pub allSteps : ℕ → List ℕ → Bool
 allSteps ed [] = true
-allSteps ed (x ∷ xs) = cond (ltb 0 (wide ed x)) (allSteps ed xs) false
+allSteps ed (x ∷ xs) = cond (isStep ed x) (allSteps ed xs) false
 
 -- the bits of all steps
 unfoldable pub body : ℕ → List ℕ → List Bool

@@ -2,6 +2,7 @@
 // Each call takes anything at all, and gives its result or one numbered refusal.
 ghost use mathlib.Core.Path.{_≡_};
 ghost use Rattle.tape.specs.Layout.{fieldsIn};
+ghost use Rattle.tape.specs.Writing.{isStep};
 ghost use Rattle.tape.specs.Promises.{CheckPromise, ReadPromise, WritePromise};
 
 mod bits;
@@ -72,6 +73,13 @@ pub fn write_tape(first: u16, words: &[u64], buf: &mut [u8]) -> Written
     }
     writing::lay_tape(buf, first, words);
     Written::Bytes(size)
+}
+
+// Whether a word is a step: its tape bits at the top, its fields in range, and zeros below.
+pub fn is_step(word: u64) -> bool
+    ensures { λ r. ⌜ r ≡ isStep 1 word ⌝ }
+{
+    0 < layout::step_width(word)
 }
 
 // The fields of a step word, by the layout of its kind.
