@@ -35,6 +35,7 @@ slotNamed (Lose slot) = slot
 slotNamed (Repeat slot) = slot
 slotNamed (Stop device) = 0
 
+-- its place in the table
 abbrev pub slotOf : Step → ℕ
 slotOf step = within 128 (slotNamed step)
 
@@ -47,9 +48,11 @@ deviceNamed (Lose slot) m = 0
 deviceNamed (Repeat slot) m = 0
 deviceNamed (Stop device) m = device
 
+-- its place among the devices
 abbrev pub deviceOf : Step → Message → ℕ
 deviceOf step m = within 24 (deviceNamed step m)
 
+-- what a slot holds
 abbrev pub messageAt : ℕ → Run → Message
 messageAt slot r = getD (r .slots) slot emptySlot .message
 
@@ -93,6 +96,7 @@ takenAt proper step slot m r =
 unfoldable pub takenIf : Bool → Step → Run → Stepped
 takenIf proper step r = takenAt proper step (slotOf step) (messageAt (slotOf step) r) r
 
+-- one step of a run: number 1 is given exactly where the state is none
 unfoldable pub taken : Step → Run → Stepped
 taken step r = takenIf (proper r) step r
 

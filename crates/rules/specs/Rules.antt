@@ -58,6 +58,7 @@ begunWith tablet outcome floor listed c boxes h =
       sending = requests tablet (h .tablet .round + 1) c boxes;
     }))
 
+-- the same, with the boxes of the queried configurations (line 7)
 unfoldable pub begun : ℕ → Outcome → Floor → Listed → Contents → Here → Effect
 begun tablet outcome floor listed c h =
     begunWith tablet outcome floor listed c (askedBoxes listed (c .v .config) (c .t)) h
@@ -79,10 +80,12 @@ askPair tablet eight pair h =
     (pick (ltb 5 (h .listed .count)) (refuse 8 h)
     (askWith tablet eight (2 ^ (h .listed .count)) (withChange (h .listed) pair) h)))
 
+-- "4: Ask while asking"
 abbrev pub askIn : ℕ → ℕ → Config → Phase → Here → Effect
 askIn tablet eight pair Idle h = askPair tablet eight pair h
 askIn tablet eight pair (Asks a) h = refuse 4 h
 
+-- Ask: 3, 4, 8, 9, 10
 unfoldable pub ask : ℕ → ℕ → Config → Here → Effect
 ask tablet eight pair h = pick (h .stopped) (refuse 3 h) (askIn tablet eight pair (h .tablet .phase) h)
 
@@ -98,15 +101,17 @@ abbrev pub answerTo : Letter → Contents → Sending
 answerTo l c =
     record { message = Answer (record { from = l .to; to = l .from; round = l .round; contents = c }); to = only (l .from) }
 
--- "A tablet that is asking marks the box if the answer's round is its own" (line 9)
+-- "A tablet that is asking marks the box"
 abbrev pub markedIn : ℕ → Phase → Phase
 markedIn box Idle = Idle
 markedIn box (Asks a) =
     Asks (record { config = a .config; t = a .t; candidates = a .candidates; answered = union (a .answered) box; floor = a .floor })
 
+-- "if the answer's round is its own" (line 9: the responses carry the round of the requests)
 unfoldable pub marked : Letter → Tablet → Tablet
 marked l x = pick (eqb (l .round) (x .round)) (record { round = x .round; phase = markedIn (boxOf (l .from)) (x .phase) }) x
 
+-- Deliver, by what the slot holds: 7, then 3; "a commit is not answered"
 unfoldable pub deliver : Message → Here → Effect
 deliver Empty h = refuse 7 h
 deliver (Request l) h =
@@ -158,26 +163,30 @@ commit tablet b h =
     pick (ltb (h .free) 24) (refuse 10 h)
     (handsBack (Committed b) (record { message = Commit (record { from = tablet; to = 0; book = b }); to = 2 ^ 24 - 1 }) h)
 
--- "Otherwise, if a set floor is contained in v, become idle and hand back v (adopted). Otherwise begin a round." (line 15)
+-- "a set floor is contained in v" (line 15)
 abbrev pub floorInside : Floor → Book → Bool
 floorInside Unset v = false
 floorInside (Set b) v = bookInside b v
 
+-- "become idle and hand back v (adopted). Otherwise begin a round." (line 15)
 unfoldable pub adoptOr : ℕ → Floor → Here → Effect
 adoptOr tablet floor h =
     pick (floorInside floor (h .contents .v)) (handsBack (Adopted (h .contents .v)) noSending h)
     (begun tablet (Round (h .tablet .round + 1)) floor (h .listed) (h .contents) h)
 
+-- what Advance does where it is allowed: lines 10 to 14 where configuration and T are steady, else line 15 at once
 unfoldable pub advanceFrom : ℕ → Asking → Here → Effect
 advanceFrom tablet a h =
     pick (steady a h)
     (pick (sameNotes (h .contents .candidates) (a .candidates)) (commit tablet (decided h) h) (adoptOr tablet (orSet (a .floor) (decided h)) h))
     (adoptOr tablet (a .floor) h)
 
+-- "5: Advance while idle", "6: Advance not allowed yet"
 abbrev pub advanceIn : ℕ → Phase → Here → Effect
 advanceIn tablet Idle h = refuse 5 h
 advanceIn tablet (Asks a) h = pick (allowed a h) (advanceFrom tablet a h) (refuse 6 h)
 
+-- Advance: 3, 5, 6, 9, 10
 unfoldable pub advance : ℕ → Here → Effect
 advance tablet h = pick (h .stopped) (refuse 3 h) (advanceIn tablet (h .tablet .phase) h)
 
@@ -221,6 +230,7 @@ inRange (Lose slot) = leb slot 127
 inRange (Repeat slot) = leb slot 127
 inRange (Stop device) = leb device 23
 
+-- the rule of each step
 unfoldable pub ruled : Step → Message → Here → Effect
 ruled (Ask tablet eight pair) m h = ask tablet eight pair h
 ruled (Advance tablet) m h = advance tablet h

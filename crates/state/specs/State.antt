@@ -51,6 +51,7 @@ unfoldable pub allDifferent : Listed → Bool
 allDifferent listed =
     each (listed .count) (λ later. each later (λ earlier. not (sameConfig (changeAt listed earlier) (changeAt listed later))))
 
+-- of what a device keeps: its T
 abbrev pub properContents : ℕ → Contents → Bool
 properContents n c = namesListed n (c .t)
 
@@ -70,6 +71,7 @@ isTablet d = ltb d 8
 abbrev pub isBox : ℕ → Bool
 isBox d = both (leb 8 d) (ltb d 24)
 
+-- of a request or an answer: its round and its T
 abbrev pub properLetter : ℕ → Letter → Bool
 properLetter n l = both (leb (l .round) 1023) (namesListed n (l .contents .t))
 
@@ -84,6 +86,7 @@ properMessage n (Commit c) = both (isTablet (c .from)) (ltb (c .to) 24)
 abbrev pub properUpTo : ℕ → Message → Bool
 properUpTo n m = pick (ltb 6 n) false (properMessage n m)
 
+-- of what a slot holds
 abbrev pub properSlot : ℕ → Slot → Bool
 properSlot n s = properMessage n (s .message)
 
