@@ -1,14 +1,14 @@
 -- Laws of notes, configurations and books: each is a semilattice (`notes-joined`, `configs-joined`, `books-joined`), so that the laws of containment in
 -- `sets`, Semilattice, hold of it; its test of equality decides; and two majorities of one configuration share a member (`majorities-share`).
 -- What is in a join is said of each set by `digit-union` and `in-union` of `sets`, SetLaws; what is among the members by `in-members` and `members-has`.
-use Prim.Native.Nat.{ℕ}
+use Prim.Native.Nat.{ℕ, _^_, _<_}
 use mathlib.Core.Bool.{true}
 use mathlib.Core.Path.{_≡_, refl}
 use native.Mathlib.Omega.{arith}
 use Rattle.sets.specs.Sets.{digit, union, inside}
 use Rattle.sets.specs.Majority.{one, majorityOf}
 use Rattle.sets.proofs.Semilattice.{Semilattice}
-use Rattle.sets.proofs.SetLaws.{digit-lt, digit-union, digit-members, sets-joined}
+use Rattle.sets.proofs.SetLaws.{digit-lt, digit-union, digit-members, union-lt, sets-joined}
 use Rattle.sets.proofs.BelowLaws.{both-left, both-right, both-on}
 use Rattle.sets.proofs.Parts.{of-one, of-two, Decides, numbers-decided, decided-of-one, decided-of-two}
 use Rattle.sets.proofs.MajorityLaws.{Meet, majorities-meet, no-members-no-majority}
@@ -85,6 +85,20 @@ removed-never-returns c d box h =
       digit-union box (c .removed) (d .removed),
       digit-lt box n,
     )
+
+-- ---- Width: what is joined fits where its sides fit: notes in 64 bits, boxes in 16, a set of listed changes in 8
+
+pub notes-fit : (a b : Notes) → a .set < 2 ^ 64 → b .set < 2 ^ 64 → joinNotes a b .set < 2 ^ 64
+notes-fit a b = union-lt 64 (a .set) (b .set)
+
+pub added-fit : (c d : Config) → c .added < 2 ^ 16 → d .added < 2 ^ 16 → joinConfigs c d .added < 2 ^ 16
+added-fit c d = union-lt 16 (c .added) (d .added)
+
+pub removed-fit : (c d : Config) → c .removed < 2 ^ 16 → d .removed < 2 ^ 16 → joinConfigs c d .removed < 2 ^ 16
+removed-fit c d = union-lt 16 (c .removed) (d .removed)
+
+pub changes-fit : (t u : ℕ) → t < 2 ^ 8 → u < 2 ^ 8 → union t u < 2 ^ 8
+changes-fit t u = union-lt 8 t u
 
 -- ---- Equality
 
