@@ -2,6 +2,7 @@
 use Prim.Native.Nat.{ℕ, zero, suc, _-_, _^_}
 use mathlib.Core.Bool.{Bool, true, false}
 use mathlib.Core.List.{List, [], _∷_}
+use mathlib.Core.Option.{Option, none, some}
 use lib.Dec.{ltb, leb}
 use Rattle.sets.specs.Choice.{pick, both}
 use Rattle.sets.specs.Sets.{has}
@@ -16,13 +17,24 @@ use Rattle.devices.specs.declared.Sending.{Sending}
 use Rattle.devices.specs.declared.Here.{Here}
 use Rattle.devices.specs.declared.Effect.{Effect}
 
--- the number that 01 gives an outcome ("Numbers a caller gets back"): 0 is done
+-- what a caller is told ("Numbers a caller gets back"): the number, and the values that come with it, a new round or a book handed back
+pub record Told : Type 0 where
+  pub number : ℕ
+  pub round : Option ℕ
+  pub committed : Option Book
+  pub adopted : Option Book
+
+-- the answer that each case of an outcome is; "A refusal carries no book"
+abbrev pub answerOf : Outcome → Told
+answerOf Done = record { number = 0; round = none; committed = none; adopted = none }
+answerOf (Round n) = record { number = 0; round = some n; committed = none; adopted = none }
+answerOf (Committed b) = record { number = 0; round = none; committed = some b; adopted = none }
+answerOf (Adopted b) = record { number = 0; round = none; committed = none; adopted = some b }
+answerOf (Refused n) = record { number = n; round = none; committed = none; adopted = none }
+
+-- its number
 abbrev pub numberOf : Outcome → ℕ
-numberOf Done = 0
-numberOf (Round n) = 0
-numberOf (Committed b) = 0
-numberOf (Adopted b) = 0
-numberOf (Refused n) = n
+numberOf o = answerOf o .number
 
 -- "the join of all books handed back": what it becomes by an outcome
 abbrev pub keptAfter : Outcome → Book → Book

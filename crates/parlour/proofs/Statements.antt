@@ -15,9 +15,6 @@ use Rattle.parlour.proofs.Others.{refused-leaves, others-stay}
 use Rattle.parlour.proofs.Growth.{below-same, below-through, above-mine, above-theirs, step-grows}
 
 -- a contract that says what the result is settles it
-settled : {A : Type 0} (z : A) → Settles (λ (x : A). x ≡ z)
-settled z x y p q = p ∙ sym q
-
 ran-proper : (r : Run) (steps : List Step) → length (r .listed .changes) ≡ 6 → proper r ≡ true → proper (ran r steps) ≡ true
 unfolding ran
 ran-proper r [] l p = p
@@ -27,7 +24,11 @@ pub statements : Statements
 statements =
     record {
       settled =
-          record { start = λ first. settled _; step = λ step r. settled _; may-unplug = λ r box. settled _ };
+          record {
+            start = λ first x y p q. p .settled ∙ sym (q .settled);
+            step = λ step r x y p q. p .settled ∙ sym (q .settled);
+            may-unplug = λ r box x y p q. p .settled ∙ sym (q .settled);
+          };
       refusals-leave = refused-leaves;
       others-stay = others-stay;
       proper-stays =

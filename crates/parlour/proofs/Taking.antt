@@ -19,13 +19,15 @@ use Rattle.devices.specs.declared.Effect.{Effect}
 use Rattle.devices.specs.declared.Step.{Step}
 use Rattle.devices.specs.declared.Step.the-variants.{Ask, Advance, Deliver, Lose, Repeat, Stop}
 use Rattle.devices.specs.Contents.{freshContents, freshTablet}
-use Rattle.devices.specs.Effects.{numberOf, keptAfter, addressed, copies, refuse}
+use Rattle.devices.specs.Effects.{answerOf, numberOf, keptAfter, addressed, copies, refuse}
 use Rattle.rules.specs.Rules.{deliver, lose, stop, inRange, ruled, effectOf}
 use Rattle.state.specs.declared.Slot.{Slot}
 use Rattle.state.specs.declared.Run.{Run}
 use Rattle.state.specs.declared.Stepped.{Stepped}
 use Rattle.state.specs.Slots.{emptySlot, isFree, many, laid, freedIf}
-use Rattle.parlour.specs.Steps.{within, slotOf, deviceOf, messageAt, hereAt, applied, takenAt, takenIf}
+use Rattle.parlour.specs.Steps.{within, slotOf, deviceOf, messageAt, hereAt, applied, takenAt, takenIf, taken, StepPromise, mayUnplug, unplugAnswer, UnplugPromise}
+use Rattle.state.specs.State.{proper}
+use Rattle.parlour.specs.declared.Unplug.{Unplug}
 use Rattle.parlour.specs.Working.{countsFree}
 use Rattle.state.proofs.SlotLaws.{holding, many-end}
 use Rattle.parlour.proofs.Passes.{nothing-to-lay, Laying, lay-skip, lay-pass, lay-store, lay-done}
@@ -221,3 +223,12 @@ pub stop-24 : (ok : Bool) (r : Run) → eqb (numberOf (takenIf ok (Stop 24) r .o
 unfolding takenIf applied effectOf refuse
 stop-24 true r = refl
 stop-24 false r = refl
+
+-- ---- What the public calls promise
+
+pub step-promise : (step : Step) (r : Run) (s : Stepped) → s ≡ takenIf (proper r) step r → StepPromise step r s
+unfolding taken
+step-promise step r s e = record { settled = e; told = ap (λ (x : Stepped). answerOf (x .outcome)) e }
+
+pub unplug-promise : (r : Run) (box : ℕ) (u : Unplug) → u ≡ mayUnplug r box → UnplugPromise r box u
+unplug-promise r box u e = record { settled = e; told = ap unplugAnswer e }

@@ -24,9 +24,9 @@ use Rattle.state.specs.declared.Slot.{Slot}
 use Rattle.state.specs.declared.Run.{Run}
 use Rattle.state.specs.declared.Stepped.{Stepped}
 use Rattle.state.specs.Slots.{emptySlot, isFree, all, many, laid}
-use Rattle.state.specs.State.{fresh, started, proper}
+use Rattle.state.specs.State.{fresh, StartPromise, proper}
 use Rattle.parlour.specs.declared.Unplug.{Unplug}
-use Rattle.parlour.specs.Steps.{slotOf, messageAt, taken, mayUnplug}
+use Rattle.parlour.specs.Steps.{slotOf, messageAt, taken, StepPromise, UnplugPromise}
 
 -- what a device keeps, and a tablet's own part
 abbrev pub deviceAt : ℕ → Run → Contents
@@ -43,11 +43,11 @@ Settles {A} contract = (x y : A) → contract x → contract y → x ≡ y
 
 pub record Settled : Type 0 where
   -- starting a run
-  pub start : (first : ℕ) → Settles (λ (s : Stepped). s ≡ started first)
+  pub start : (first : ℕ) → Settles (StartPromise first)
   -- a step; the calls ask, advance, deliver, lose, repeat and stop have this contract for the step that they are named after
-  pub step : (step : Step) (r : Run) → Settles (λ (s : Stepped). s ≡ taken step r)
+  pub step : (step : Step) (r : Run) → Settles (StepPromise step r)
   -- the unplug question
-  pub may-unplug : (r : Run) (box : ℕ) → Settles (λ (u : Unplug). u ≡ mayUnplug r box)
+  pub may-unplug : (r : Run) (box : ℕ) → Settles (UnplugPromise r box)
 
 -- ---- "A refusal carries no book, row or length; state and buffers stay as given."
 

@@ -1,7 +1,9 @@
 -- One step of a run: the rule's effect on the acting device's parts, applied to the run; and the question whether a box may be unplugged.
 use Prim.Native.Nat.{ℕ, _^_}
-use mathlib.Core.Bool.{Bool}
+use mathlib.Core.Bool.{Bool, true, false}
 use lib.Dec.{ltb}
+use mathlib.Core.Option.{Option, none, some}
+use mathlib.Core.Path.{_≡_}
 use lib.ListN.{getD, set}
 use Rattle.sets.specs.Choice.{pick}
 use Rattle.sets.specs.Sets.{has, union}
@@ -11,7 +13,7 @@ use Rattle.devices.specs.declared.Effect.{Effect}
 use Rattle.devices.specs.declared.Step.{Step}
 use Rattle.devices.specs.declared.Step.the-variants.{Ask, Advance, Deliver, Lose, Repeat, Stop}
 use Rattle.devices.specs.Contents.{freshContents, freshTablet}
-use Rattle.devices.specs.Effects.{addressee, keptAfter, messagesOf}
+use Rattle.devices.specs.Effects.{answerOf, addressee, keptAfter, messagesOf}
 use Rattle.rules.specs.Rules.{effectOf}
 use Rattle.state.specs.declared.Run.{Run}
 use Rattle.state.specs.declared.Stepped.{Stepped}
@@ -100,6 +102,11 @@ takenIf proper step r = takenAt proper step (slotOf step) (messageAt (slotOf ste
 unfoldable pub taken : Step → Run → Stepped
 taken step r = takenIf (proper r) step r
 
+-- what a step promises: the whole result, and so the answer that the caller is told
+pub record StepPromise (step : Step) (r : Run) (s : Stepped) : Type 0 where
+  pub settled : s ≡ taken step r
+  pub told : answerOf (s .outcome) ≡ answerOf (taken step r .outcome)
+
 -- ---- The unplug question
 
 -- "The answer is yes exactly when it is in the removed set of the kept join"; "The unplug question gives 1, then 2"
@@ -108,3 +115,18 @@ mayUnplug r box =
     pick (proper r)
     (pick (ltb 15 box) (Unanswered 2) (pick (has box (r .kept .config .removed)) May MayNot))
     (Unanswered 1)
+
+-- the answer that each case is: its number, and yes or no
+pub record UnplugAnswer : Type 0 where
+  pub number : ℕ
+  pub may : Option Bool
+
+abbrev pub unplugAnswer : Unplug → UnplugAnswer
+unplugAnswer May = record { number = 0; may = some true }
+unplugAnswer MayNot = record { number = 0; may = some false }
+unplugAnswer (Unanswered n) = record { number = n; may = none }
+
+-- what the question promises
+pub record UnplugPromise (r : Run) (box : ℕ) (u : Unplug) : Type 0 where
+  pub settled : u ≡ mayUnplug r box
+  pub told : unplugAnswer u ≡ unplugAnswer (mayUnplug r box)

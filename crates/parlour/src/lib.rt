@@ -17,7 +17,7 @@ ghost use Rattle.sets.specs.Sets.{has, union};
 ghost use Rattle.devices.specs.declared.Step.{Step};
 ghost use Rattle.state.specs.Slots.{emptySlot};
 ghost use Rattle.state.specs.State.{properDesk, proper};
-ghost use Rattle.parlour.specs.Steps.{within, slotOf, deviceOf, taken, takenIf, mayUnplug};
+ghost use Rattle.parlour.specs.Steps.{within, slotOf, deviceOf, takenIf, StepPromise, UnplugPromise};
 ghost use Rattle.parlour.specs.Working.{countsFree};
 
 // Whether a box may be unplugged, or the number of a refusal.
@@ -218,13 +218,13 @@ fn take(mut run: Run, known: bool, step: Step) -> Stepped
 
 // One step of a run.
 pub fn step(run: Run, step: Step) -> Stepped
-    ensures { λ r. ⌜ r ≡ taken step run ⌝ }
+    ensures { λ r. ⌜ StepPromise step run r ⌝ }
 {
     take(run, false, step)
 }
 
 pub fn ask(run: Run, tablet: u8, notes: u8, added: u16, removed: u16) -> Stepped
-    ensures { λ r. ⌜ r ≡ taken (Step.Ask tablet notes (record { added = added; removed = removed })) run ⌝ }
+    ensures { λ r. ⌜ StepPromise (Step.Ask tablet notes (record { added = added; removed = removed })) run r ⌝ }
 {
     take(
         run,
@@ -241,31 +241,31 @@ pub fn ask(run: Run, tablet: u8, notes: u8, added: u16, removed: u16) -> Stepped
 }
 
 pub fn advance(run: Run, tablet: u8) -> Stepped
-    ensures { λ r. ⌜ r ≡ taken (Step.Advance tablet) run ⌝ }
+    ensures { λ r. ⌜ StepPromise (Step.Advance tablet) run r ⌝ }
 {
     take(run, false, Step::Advance(tablet))
 }
 
 pub fn deliver(run: Run, slot: u8) -> Stepped
-    ensures { λ r. ⌜ r ≡ taken (Step.Deliver slot) run ⌝ }
+    ensures { λ r. ⌜ StepPromise (Step.Deliver slot) run r ⌝ }
 {
     take(run, false, Step::Deliver(slot))
 }
 
 pub fn lose(run: Run, slot: u8) -> Stepped
-    ensures { λ r. ⌜ r ≡ taken (Step.Lose slot) run ⌝ }
+    ensures { λ r. ⌜ StepPromise (Step.Lose slot) run r ⌝ }
 {
     take(run, false, Step::Lose(slot))
 }
 
 pub fn repeat(run: Run, slot: u8) -> Stepped
-    ensures { λ r. ⌜ r ≡ taken (Step.Repeat slot) run ⌝ }
+    ensures { λ r. ⌜ StepPromise (Step.Repeat slot) run r ⌝ }
 {
     take(run, false, Step::Repeat(slot))
 }
 
 pub fn stop(run: Run, device: u8) -> Stepped
-    ensures { λ r. ⌜ r ≡ taken (Step.Stop device) run ⌝ }
+    ensures { λ r. ⌜ StepPromise (Step.Stop device) run r ⌝ }
 {
     take(run, false, Step::Stop(device))
 }
@@ -281,7 +281,7 @@ fn is_proper(run: Run) -> bool
 
 // Whether a box may be unplugged: exactly where it is in the removed set of the kept join.
 pub fn may_unplug(run: Run, number: u8) -> Unplug
-    ensures { λ r. ⌜ r ≡ mayUnplug run number ⌝ }
+    ensures { λ r. ⌜ UnplugPromise run number r ⌝ }
 {
     let kept = run.kept;
     if is_proper(run) {

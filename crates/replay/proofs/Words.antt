@@ -15,10 +15,11 @@ use Rattle.tape.specs.declared.Fields.{Fields}
 use Rattle.tape.proofs.BitLaws.{num-take-lt}
 use Rattle.devices.specs.declared.Outcome.the-variants.{Refused}
 use Rattle.devices.specs.declared.Step.{Step}
+use Rattle.devices.specs.Effects.{answerOf}
 use Rattle.state.specs.declared.Run.{Run}
 use Rattle.state.specs.declared.Stepped.{Stepped}
 use Rattle.parlour.specs.Steps.{taken}
-use Rattle.replay.specs.Replay.{kinds, ofFields, stepOf, playedBy, played}
+use Rattle.replay.specs.Replay.{kinds, ofFields, stepOf, playedBy, played, PlayPromise}
 use Rattle.replay.specs.Working.{Small}
 use Rattle.replay.specs.declared.Decoded.{Decoded}
 use Rattle.tape.specs.declared.Written.the-variants as W
@@ -78,3 +79,6 @@ module _ (x : ℕ) (r : Run) (d : Decoded) (decoded : d ≡ stepOf x) where
   pub played-none : d ≡ D.NoStep → record { outcome = Refused 14; run = r } ≡ played x r
   unfolding played
   played-none e = ap (λ d. playedBy d r) (sym e ∙ decoded)
+
+pub play-promise : (x : ℕ) (r : Run) (s : Stepped) → s ≡ played x r → PlayPromise x r s
+play-promise x r s e = record { settled = e; told = ap (λ (y : Stepped). answerOf (y .outcome)) e }

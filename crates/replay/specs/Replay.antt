@@ -1,10 +1,12 @@
 -- Which step a word of the reader's row is, and a word played (01, "The tape").
 use Prim.Native.Nat.{ℕ}
 use mathlib.Core.List.{List, [], _∷_}
+use mathlib.Core.Path.{_≡_}
 use lib.ListN.{getD}
 use Rattle.sets.specs.Choice.{pick}
 use Rattle.devices.specs.declared.Step.the-variants.{Ask, Advance, Deliver, Lose, Repeat, Stop}
 use Rattle.devices.specs.declared.Outcome.the-variants.{Refused}
+use Rattle.devices.specs.Effects.{answerOf}
 use Rattle.state.specs.declared.Run.{Run}
 use Rattle.state.specs.declared.Stepped.{Stepped}
 use Rattle.parlour.specs.Steps.{taken}
@@ -40,3 +42,8 @@ playedBy D.NoStep r = record { outcome = Refused 14; run = r }
 
 unfoldable pub played : ℕ → Run → Stepped
 played word r = playedBy (stepOf word) r
+
+-- what playing a word promises: the whole result, and so the answer that the caller is told
+pub record PlayPromise (word : ℕ) (r : Run) (s : Stepped) : Type 0 where
+  pub settled : s ≡ played word r
+  pub told : answerOf (s .outcome) ≡ answerOf (played word r .outcome)

@@ -6,7 +6,7 @@ use state::Run;
 use state::Stepped;
 use tape::Fields;
 ghost use mathlib.Core.Path.{_≡_};
-ghost use Rattle.replay.specs.Replay.{ofFields, stepOf, played};
+ghost use Rattle.replay.specs.Replay.{ofFields, stepOf, PlayPromise};
 ghost use Rattle.replay.specs.Working.{Small};
 
 // The step that a word is, or that it is none.
@@ -54,7 +54,7 @@ pub fn decode(word: u64) -> Decoded
 
 // The step of a word taken; 14 for a word that is none.
 pub fn play_word(run: Run, word: u64) -> Stepped
-    ensures { λ r. ⌜ r ≡ played word run ⌝ }
+    ensures { λ r. ⌜ PlayPromise word run r ⌝ }
 {
     let decoded = decode(word);
     match decoded {

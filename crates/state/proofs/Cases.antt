@@ -21,10 +21,12 @@ use Rattle.devices.specs.declared.Notice.{Notice}
 use Rattle.devices.specs.declared.Message.{Message}
 use Rattle.devices.specs.declared.Message.the-variants.{Empty, Request, Answer, Commit}
 use Rattle.devices.specs.declared.Outcome.the-variants.{Done, Refused}
+use Rattle.devices.specs.Effects.{answerOf}
 use Rattle.devices.specs.Contents.{freshTablet}
 use Rattle.state.specs.declared.Run.{Run}
+use Rattle.state.specs.declared.Stepped.{Stepped}
 use Rattle.state.specs.Slots.{emptySlot, all}
-use Rattle.state.specs.State.{fresh, started, namesListed, allDifferent, properContents, properPhase, properTablet, properLetter, properMessage, properUpTo, properDesk, isTablet, isBox}
+use Rattle.state.specs.State.{fresh, started, StartPromise, namesListed, allDifferent, properContents, properPhase, properTablet, properLetter, properMessage, properUpTo, properDesk, isTablet, isBox}
 use Rattle.state.proofs.StateLaws.{desk-up-to}
 
 -- ---- The start
@@ -52,6 +54,9 @@ started-none first z e = rw (e, eq-eqb first 0 z)
 pub started-done : (first : ℕ) {run : Run} → (first ≡ 0 → ⊥) → run ≡ fresh first → record { outcome = Done; run = run } ≡ started first
 unfolding started
 started-done first n e = rw (e, ne-eqb first 0 n)
+
+pub start-promise : (first : ℕ) (s : Stepped) → s ≡ started first → StartPromise first s
+start-promise first s e = record { settled = e; told = ap (λ (x : Stepped). answerOf (x .outcome)) e }
 
 -- ---- Phases and messages
 

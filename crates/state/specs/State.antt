@@ -2,6 +2,7 @@
 use Prim.Native.Nat.{ℕ, _/_, _^_}
 use mathlib.Core.Bool.{Bool, true, false, not}
 use mathlib.Core.List.{List}
+use mathlib.Core.Path.{_≡_}
 use lib.Dec.{ltb, leb, eqb}
 use lib.ListN.{replicate}
 use Rattle.sets.specs.Choice.{pick, both}
@@ -17,6 +18,7 @@ use Rattle.devices.specs.declared.Letter.{Letter}
 use Rattle.devices.specs.declared.Message.{Message}
 use Rattle.devices.specs.declared.Message.the-variants.{Empty, Request, Answer, Commit}
 use Rattle.devices.specs.declared.Outcome.the-variants.{Done, Refused}
+use Rattle.devices.specs.Effects.{answerOf}
 use Rattle.devices.specs.Contents.{freshContents, freshTablet}
 use Rattle.state.specs.declared.Slot.{Slot}
 use Rattle.state.specs.declared.Run.{Run}
@@ -39,6 +41,11 @@ fresh first =
 -- "Starting a run gives 12 or 0"
 unfoldable pub started : ℕ → Stepped
 started first = record { outcome = pick (eqb first 0) (Refused 12) Done; run = fresh first }
+
+-- what starting a run promises: the whole result, and so the answer that the caller is told
+pub record StartPromise (first : ℕ) (s : Stepped) : Type 0 where
+  pub settled : s ≡ started first
+  pub told : answerOf (s .outcome) ≡ answerOf (started first .outcome)
 
 -- ---- A proper state: none of the cases of number 1
 

@@ -15,7 +15,7 @@ ghost use Rattle.sets.specs.Below.{each};
 ghost use Rattle.books.specs.Books.{sameConfig};
 ghost use Rattle.books.specs.Queried.{changeAt};
 ghost use Rattle.state.specs.Slots.{all};
-ghost use Rattle.state.specs.State.{fresh, started, namesListed, allDifferent, properContents, properPhase, properTablet, properLetter, properUpTo, properDesk, isBox};
+ghost use Rattle.state.specs.State.{fresh, StartPromise, namesListed, allDifferent, properContents, properPhase, properTablet, properLetter, properUpTo, properDesk, isBox};
 
 pub struct Slot {
     pub message: Message,
@@ -82,7 +82,7 @@ fn fresh_run(first: u16) -> Run
 
 // A run with these first boxes: 12 where there are none.
 pub fn start(first: u16) -> Stepped
-    ensures { λ r. ⌜ r ≡ started first ⌝ }
+    ensures { λ r. ⌜ StartPromise first r ⌝ }
 {
     let run = fresh_run(first);
     if first == 0 {
