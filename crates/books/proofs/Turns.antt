@@ -4,7 +4,7 @@ use mathlib.Core.Bool.{Bool, true, false}
 use mathlib.Core.List.{List, map}
 use mathlib.Core.Path.{_≡_, sym, ap, _∙_}
 use mathlib.Core.Logic.{_⊎_, ⊎-elim}
-use native.Mathlib.Nat.{lt-irrefl, zero-add}
+use native.Mathlib.Nat.{lt-irrefl, zero-add, mod-eq-of-lt}
 use native.Mathlib.Numerals.{add-one}
 use native.Mathlib.Omega.{arith}
 use lib.ListN.{getD, take, drop, length, length-map, length-take, drop-of-length-le}
@@ -32,14 +32,15 @@ length-mapped f l n e = sym (length-map l f) ∙ e
 pub own-none : (tablet eight : ℕ) → 7 < tablet → record { set = 0 } ≡ ownNotes tablet eight
 unfolding ownNotes
 own-none tablet eight h =
-    ap (λ (s : ℕ). record { set = s }) (pick-true 0 (eight * 2 ^ (8 * tablet)) (lt-ltb 7 tablet h))
+    ap (λ (s : ℕ). record { set = s }) (pick-true 0 (eight % 2 ^ 8 * 2 ^ (8 * tablet)) (lt-ltb 7 tablet h))
 
 pub own-placed : (tablet eight : ℕ) → tablet ≤ 7 → eight < 256
     → record { set = eight * 2 ^ (8 * tablet) % 18446744073709551616 } ≡ ownNotes tablet eight
 unfolding ownNotes
 own-placed tablet eight h l =
     ap (λ (s : ℕ). record { set = s })
-    (shl-exact 8 (8 * tablet) 64 l (omega arith) ∙ pick-false 0 (eight * 2 ^ (8 * tablet)) (le-ltb 7 tablet h))
+    (shl-exact 8 (8 * tablet) 64 l (omega arith) ∙ ap (λ (n : ℕ). n * 2 ^ (8 * tablet)) (sym (mod-eq-of-lt l))
+    ∙ pick-false 0 (eight % 2 ^ 8 * 2 ^ (8 * tablet)) (le-ltb 7 tablet h))
 
 -- ---- Looking for a place in a list
 

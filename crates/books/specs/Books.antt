@@ -1,5 +1,5 @@
 -- Notes, configurations and books: 01, "Books, boxes and containment", sentence by sentence.
-use Prim.Native.Nat.{ℕ, _*_, _/_, _^_}
+use Prim.Native.Nat.{ℕ, _*_, _/_, _%_, _^_}
 use mathlib.Core.Bool.{Bool}
 use lib.Dec.{eqb, ltb}
 use Rattle.sets.specs.Choice.{pick, both}
@@ -17,9 +17,9 @@ owner note = note / 8
 abbrev pub noNotes : Notes
 noNotes = record { set = 0 }
 
--- the tablet's eight own notes, its lowest number having weight 1, at their places among all; a tablet over 7 owns none
+-- the tablet's own notes, eight bits of which its lowest number has weight 1, at their places among all; a tablet over 7 owns none
 unfoldable pub ownNotes : ℕ → ℕ → Notes
-ownNotes tablet eight = record { set = pick (ltb 7 tablet) 0 (eight * 2 ^ (8 * tablet)) }
+ownNotes tablet eight = record { set = pick (ltb 7 tablet) 0 (eight % 2 ^ 8 * 2 ^ (8 * tablet)) }
 
 -- "A configuration is two sets of boxes, added and removed": no boxes at all
 abbrev pub noConfig : Config

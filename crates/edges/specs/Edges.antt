@@ -18,6 +18,7 @@ use Rattle.parlour.specs.Steps.{hereAt, applied, takenIf, taken}
 use Rattle.promise.specs.Promise.{after}
 use Rattle.tape.specs.Bits.{bit, odd, bits, num, bitsOf, word}
 use Rattle.tape.specs.Layout.{inRange, legal, mark}
+use Rattle.tape.specs.Printed.{stopsBox15}
 use Rattle.tape.specs.Reading.{begins, stepAt, endAt, kindAt, readAt, Outcome, given, refused, readFrom, readSteps, firstBoxes, headOf, readTape}
 
 -- a row: boxes added, removed and answered, with the majority's yes or no; a tape, with what reading it comes to;
@@ -32,10 +33,6 @@ abbrev pub Says : Row → Type 0
 Says (a-majority added removed answered holds) = majorityOf added removed answered ≡ holds
 Says (a-tape tape outcome) = readTape tape ≡ outcome
 Says (a-run boxes step earlier number) = numberOf (taken step (after boxes earlier) .outcome) ≡ number
-
--- Stop of device 23, which is box 15, as a step word: kind 5, then the device
-abbrev pub stopsBox15 : ℕ
-stopsBox15 = 0xb700000000000000
 
 -- an ask of tablet 0 that removes box 0 of the one first box, its request heard by the box, and the answer by the tablet
 abbrev pub onlyBoxRemoved : List Step

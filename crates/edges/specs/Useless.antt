@@ -8,7 +8,6 @@ use native.Mathlib.Omega.{arith}
 use lib.ListN.{getD, set}
 use Rattle.sets.specs.Below.{times, each, unions, those}
 use Rattle.sets.specs.Majority.{weigh, one, majority, majorityOf}
-use Rattle.books.specs.declared.Book.{Book}
 use Rattle.books.specs.Books.{ownNotes, noConfig}
 use Rattle.books.specs.Queried.{first, placeOf, withChange, outside, joinedWith, everyMajority, askedBoxes}
 use Rattle.devices.specs.declared.Step.{Step}
@@ -16,11 +15,11 @@ use Rattle.devices.specs.declared.Step.the-variants.{Ask, Advance, Deliver}
 use Rattle.devices.specs.declared.Outcome.{Outcome}
 use Rattle.devices.specs.declared.Outcome.the-variants.{Done, Round, Committed, Adopted, Refused}
 use Rattle.devices.specs.Contents.{freshContents, freshTablet, merged}
-use Rattle.devices.specs.Effects.{numberOf, copies, refuse}
+use Rattle.devices.specs.Effects.{copies, refuse}
 use Rattle.rules.specs.Rules.{begun, askWith, askPair, ask, marked, deliver, decided, allowed, steady, commit, adoptOr, advanceFrom, advance, ruled, effectOf}
 use Rattle.state.specs.declared.Run.{Run}
 use Rattle.state.specs.declared.Stepped.{Stepped}
-use Rattle.state.specs.Slots.{emptySlot, all, many, laid}
+use Rattle.state.specs.Slots.{all, many, laid}
 use Rattle.state.specs.State.{fresh, allDifferent, properDesk, proper}
 use Rattle.parlour.specs.Steps.{hereAt, applied, takenIf, taken}
 use Rattle.promise.specs.Promise.{after}

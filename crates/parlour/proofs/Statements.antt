@@ -1,7 +1,7 @@
 -- The statements of specs/Statements hold (`statements`).
 use mathlib.Core.Bool.{true}
-use mathlib.Core.Path.{_≡_, sym, _∙_}
 use mathlib.Core.List.{List, [], _∷_}
+use mathlib.Core.Path.{_≡_, sym, _∙_}
 use lib.ListN.{length}
 use Rattle.devices.specs.declared.Step.{Step}
 use Rattle.state.specs.declared.Run.{Run}
@@ -9,7 +9,7 @@ use Rattle.state.specs.State.{fresh, proper}
 use Rattle.state.proofs.SlotLaws.{laid-lowest, laid-keeps, laid-count}
 use Rattle.state.proofs.StateLaws.{sized-fresh, fresh-proper}
 use Rattle.parlour.specs.Steps.{taken}
-use Rattle.parlour.specs.Statements.{Settles, ran, Statements}
+use Rattle.parlour.specs.Statements.{ran, Statements}
 use Rattle.parlour.proofs.ProperStays.{long-stays, proper-stays, proper-not-1}
 use Rattle.parlour.proofs.Others.{refused-leaves, others-stay}
 use Rattle.parlour.proofs.Growth.{below-same, below-through, above-mine, above-theirs, step-grows}

@@ -3,9 +3,9 @@
 -- It is proved in proofs/Statements, of every state and every step; where a run is meant, it says so.
 use Prim.Native.Nat.{ℕ, _+_, _<_, _≤_}
 use mathlib.Core.Bool.{true, false, not}
-use mathlib.Core.Path.{_≡_}
-use mathlib.Core.Logic.{_⊎_}
 use mathlib.Core.List.{List, [], _∷_}
+use mathlib.Core.Logic.{_⊎_}
+use mathlib.Core.Path.{_≡_}
 use lib.ListN.{getD, take, length}
 use Rattle.sets.specs.Sets.{has}
 use Rattle.books.specs.declared.Listed.{Listed}
@@ -22,10 +22,8 @@ use Rattle.devices.specs.Contents.{freshContents, freshTablet, merged}
 use Rattle.devices.specs.Effects.{numberOf, addressee, isEmpty}
 use Rattle.state.specs.declared.Slot.{Slot}
 use Rattle.state.specs.declared.Run.{Run}
-use Rattle.state.specs.declared.Stepped.{Stepped}
 use Rattle.state.specs.Slots.{emptySlot, isFree, all, many, laid}
 use Rattle.state.specs.State.{fresh, StartPromise, proper}
-use Rattle.parlour.specs.declared.Unplug.{Unplug}
 use Rattle.parlour.specs.Steps.{slotOf, messageAt, taken, StepPromise, UnplugPromise}
 
 -- what a device keeps, and a tablet's own part

@@ -1,11 +1,13 @@
 -- The promise of specs/Promise, proved: the run follows the agreement argument, whose promises are read off for the parlour's books.
-use Prim.Native.Nat.{ℕ, _*_, _^_, _<_}
+use Prim.Native.Nat.{ℕ, _*_, _%_, _^_}
 use mathlib.Core.Bool.{Bool, true, false}
 use mathlib.Core.Path.{_≡_, refl}
 use mathlib.Core.Logic.{_⊎_, inl, inr, ⊎-elim}
 use mathlib.Core.List.{List}
+use native.Mathlib.Nat.{mod-lt}
 use native.Mathlib.Omega.{arith}
 use lib.Dec.{ltb}
+use lib.Pow.{pow-pos}
 use Rattle.sets.specs.Choice.{pick}
 use Rattle.sets.specs.Sets.{digit}
 use Rattle.books.specs.Books.{owner, ownNotes, bookInside}
@@ -22,13 +24,13 @@ use Rattle.promise.proofs.StepFollows.{firstBook, run-stands}
 use Rattle.promise.proofs.FromAsks.{comes-from}
 
 -- "Tablet t owns 8t to 8t+7": a note among a tablet's own eight is the tablet's
-own-note : (tablet eight note : ℕ) → digit note (ownNotes tablet eight .set) ≡ 1 → eight < 256 → tablet ≡ owner note
+own-note : (tablet eight note : ℕ) → digit note (ownNotes tablet eight .set) ≡ 1 → tablet ≡ owner note
 unfolding ownNotes
-own-note tablet eight note h l = go (ltb 7 tablet) h
+own-note tablet eight note h = go (ltb 7 tablet) h
   where
-    go : (b : Bool) → digit note (pick b 0 (eight * 2 ^ (8 * tablet))) ≡ 1 → tablet ≡ owner note
+    go : (b : Bool) → digit note (pick b 0 (eight % 2 ^ 8 * 2 ^ (8 * tablet))) ≡ 1 → tablet ≡ owner note
     go true i = absurd (none-in-empty note i)
-    go false i = let m = in-moved 8 (8 * tablet) eight note l i in omega arith
+    go false i = let m = in-moved 8 (8 * tablet) (eight % 2 ^ 8) note (mod-lt eight (pow-pos 8)) i in omega arith
 
 module _ (first : ℕ) (steps : List Step) where
   follows : Follows (firstBook first) (after first steps) (history first steps)

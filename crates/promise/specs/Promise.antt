@@ -4,7 +4,7 @@
 -- the state as it was. Lost, repeated and late messages and stopped devices are steps like any other, in any number and order, so no clause
 -- has to speak of them. Nothing is assumed of the first boxes or of the numbers in a step: with no first box no run starts (12), and a step
 -- with a number out of range is refused (2), but the promise holds of them too.
-use Prim.Native.Nat.{ℕ, _<_}
+use Prim.Native.Nat.{ℕ}
 use mathlib.Core.Bool.{Bool, true, false}
 use mathlib.Core.Path.{_≡_}
 use mathlib.Core.Logic.{_⊎_}
@@ -119,11 +119,11 @@ pub record ContainsOwnAsk (event : Event) (earlier : List Event) (book : Book) :
   pub last : lastAsk tablet earlier ≡ some asked
   pub contained : bookInside asked book ≡ true
 
--- the note was among the own notes of an accepted ask; the ask was of the note's owner, as its eight notes are a number below 2^8
+-- the note was among the own notes of an accepted ask, and the ask was of the note's owner, tablet n / 8
 pub record NoteAsked (note : ℕ) (h : List Event) : Type 0 where
   pub ask : AcceptedAsk h
   pub there : digit note (ownNotes (ask .tablet) (ask .eight) .set) ≡ 1
-  pub by-owner : ask .eight < 256 → ask .tablet ≡ owner note
+  pub by-owner : ask .tablet ≡ owner note
 
 -- an accepted ask added the box, or removed it
 pub record BoxAdded (box : ℕ) (h : List Event) : Type 0 where
@@ -139,7 +139,7 @@ pub record Promise (first : ℕ) (h : List Event) : Type 0 where
   pub one-contains-the-other : (a b : HandedBack h) → (bookInside (a .book) (b .book) ≡ true) ⊎ (bookInside (b .book) (a .book) ≡ true)
   -- Each book handed back contains what its own ask brought.
   pub own-ask : (a : HandedBack h) → ContainsOwnAsk (a .event) (a .earlier) (a .book)
-  -- Every note in it came from an earlier accepted ask.
+  -- Every note in it came from an earlier accepted ask of its owner.
   pub notes-from-asks : (a : HandedBack h) (note : ℕ) → digit note (a .book .notes .set) ≡ 1 → NoteAsked note (a .earlier)
   -- Every box added in it is a first box, or an earlier accepted ask added it.
   pub added-from-asks : (a : HandedBack h) (box : ℕ) → digit box (a .book .config .added) ≡ 1

@@ -1,6 +1,6 @@
 -- The cases of the rules, as equations on plain values: each return of a function cites one.
 use Prim.Native.Nat.{ℕ, _+_, _*_, _%_, _^_, _≤_, _<_}
-use mathlib.Core.Bool.{Bool, true, false, not}
+use mathlib.Core.Bool.{Bool, true, false}
 use mathlib.Core.Path.{_≡_, refl, sym, ap, _∙_}
 use native.Mathlib.Omega.{arith}
 use lib.Dec.{eqb}
@@ -164,18 +164,3 @@ floor-unset v p = ap (λ (x : Floor). floorInside x v) (sym p)
 
 pub floor-set : (v : Book) {f : Floor} {b : Book} {r : Bool} → f ≡ Set b → r ≡ floorInside (Set b) v → r ≡ floorInside f v
 floor-set v p q = q ∙ ap (λ (x : Floor). floorInside x v) (sym p)
-
--- what holds where the test is turned round
-pub not-true : {t : Bool} → not t ≡ true → t ≡ false
-not-true {t} e = go t e
-  where
-    go : (b : Bool) → not b ≡ true → b ≡ false
-    go true h = sym h
-    go false h = refl
-
-pub not-false : {t : Bool} → not t ≡ false → t ≡ true
-not-false {t} e = go t e
-  where
-    go : (b : Bool) → not b ≡ false → b ≡ true
-    go true h = refl
-    go false h = sym h

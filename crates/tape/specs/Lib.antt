@@ -3,4 +3,4 @@ pub mod Layout
 pub mod Reading
 pub mod Writing
 pub mod Promises
-pub mod Edges
+pub mod Printed

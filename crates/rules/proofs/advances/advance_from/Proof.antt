@@ -1,6 +1,7 @@
 use mathlib.Core.Path.{sym, _∙_}
+use borrow.Author.Tests.{not-true, not-false}
 use Rattle.rules.specs.Rules.{advanceFrom}
-use Rattle.rules.proofs.Cases.{chosen, passed, not-true, not-false}
+use Rattle.rules.proofs.Cases.{chosen, passed}
 use Rattle.rules.proofs.advances.advance_from.Statement.{statement}
 use Rattle.rules.proofs.advances.advance_from.Tie as tie
 
@@ -12,7 +13,7 @@ adopt-or-requires c κs = tt
 
 returns : tie.Need-returns
 unfolding advanceFrom
-returns c = passed _ _ (sym (c .before .before .is-steady .ensures) ∙ not-true (c .before .if1 .taken)) (c .adopt-or .ensures)
+returns c = passed _ _ (sym (c .before .before .is-steady .ensures) ∙ not-true _ (c .before .if1 .taken)) (c .adopt-or .ensures)
 
 decide-requires : tie.Need-decide-requires
 decide-requires c κs = tt
@@ -25,7 +26,7 @@ commit-rule-requires c κs = tt
 
 returns-2 : tie.Need-returns-2
 unfolding advanceFrom
-returns-2 c = chosen _ _ (sym (c .before .before .before .before .before .before .is-steady .ensures) ∙ not-false (c .before .before .before .before .before .if1 .left)) (chosen _ _ (sym (c .before .before .same-notes .ensures) ∙ (c .before .if2 .taken)) (rw (← (c .before .before .before .before .decide .ensures)) (c .commit-rule .ensures)))
+returns-2 c = chosen _ _ (sym (c .before .before .before .before .before .before .is-steady .ensures) ∙ not-false _ (c .before .before .before .before .before .if1 .left)) (chosen _ _ (sym (c .before .before .same-notes .ensures) ∙ (c .before .if2 .taken)) (rw (← (c .before .before .before .before .decide .ensures)) (c .commit-rule .ensures)))
 
 set-floor-requires : tie.Need-set-floor-requires
 set-floor-requires c κs = tt
@@ -35,7 +36,7 @@ adopt-or-requires-2 c κs = tt
 
 returns-3 : tie.Need-returns-3
 unfolding advanceFrom
-returns-3 c = chosen _ _ (sym (c .before .before .before .before .before .before .before .is-steady .ensures) ∙ not-false (c .before .before .before .before .before .before .if1 .left)) (passed _ _ (sym (c .before .before .before .same-notes .ensures) ∙ (c .before .before .if2 .left)) (rw (← (c .before .before .before .before .before .decide .ensures), ← (c .before .set-floor .ensures)) (c .adopt-or2 .ensures)))
+returns-3 c = chosen _ _ (sym (c .before .before .before .before .before .before .before .is-steady .ensures) ∙ not-false _ (c .before .before .before .before .before .before .if1 .left)) (passed _ _ (sym (c .before .before .before .same-notes .ensures) ∙ (c .before .before .if2 .left)) (rw (← (c .before .before .before .before .before .decide .ensures), ← (c .before .set-floor .ensures)) (c .adopt-or2 .ensures)))
 
 pub advance-from-spec : {M : Type 1} → statement M
 advance-from-spec =
