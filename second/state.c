@@ -1,5 +1,5 @@
 /* The fresh run, the states that number 1 refuses, and the unplug question. */
-#include "parlour.h"
+#include "run.h"
 
 #include <string.h>
 

@@ -1,6 +1,6 @@
 /* The steps of document 01. A refused step changes nothing: every refusal is
    found before the first write. */
-#include "parlour.h"
+#include "run.h"
 
 static const Answer done = { .number = DONE };
 

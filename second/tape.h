@@ -2,7 +2,7 @@
 #ifndef TAPE_H
 #define TAPE_H
 
-#include "parlour.h"
+#include "run.h"
 
 #include <stddef.h>
 

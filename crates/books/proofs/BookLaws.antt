@@ -9,7 +9,7 @@ use Rattle.sets.specs.Sets.{digit, union, inside}
 use Rattle.sets.specs.Majority.{one, majorityOf}
 use Rattle.sets.proofs.Semilattice.{Semilattice}
 use Rattle.sets.proofs.SetLaws.{digit-lt, digit-union, digit-members, union-lt, sets-joined}
-use Rattle.sets.proofs.BelowLaws.{both-left, both-right, both-on}
+use Rattle.sets.proofs.BoundedLaws.{both-left, both-right, both-on}
 use Rattle.sets.proofs.Parts.{of-one, of-two, Decides, numbers-decided, decided-of-one, decided-of-two}
 use Rattle.sets.proofs.MajorityLaws.{Meet, majorities-meet, no-members-no-majority}
 use Rattle.books.specs.declared.Notes.{Notes}

@@ -12,7 +12,7 @@ use Rattle.sets.proofs.Parts.{same-ne}
 use Rattle.books.specs.declared.Config.{Config}
 use Rattle.books.specs.declared.Listed.{Listed}
 use Rattle.books.specs.Books.{noConfig, sameConfig}
-use Rattle.books.specs.Queried.{first, changeAt, placeOf, withChange}
+use Rattle.books.specs.Queried.{firstPlace, changeAt, placeOf, withChange}
 use Rattle.books.proofs.BookLaws.{configs-decided}
 
 -- ---- The first that passes
@@ -34,11 +34,11 @@ module _ {A : Type 0} (p : A → Bool) (d : A) where
   first-of-more x xs n false e r =
       record { within = omega (arith, r .within); passes = λ l. r .passes (omega arith); before = before-one-more x xs n e r }
 
-  is-first : (xs : List A) → IsFirst p d xs (first p xs)
-  unfolding first
+  is-first : (xs : List A) → IsFirst p d xs (firstPlace p xs)
+  unfolding firstPlace
   is-first [] =
       record { within = omega arith; passes = λ l. absurd (lt-irrefl 0 (omega arith)); before = λ k l. absurd (lt-irrefl 0 (omega arith)) }
-  is-first (x ∷ xs) = first-of-more x xs (first p xs) (p x) refl (is-first xs)
+  is-first (x ∷ xs) = first-of-more x xs (firstPlace p xs) (p x) refl (is-first xs)
 
 -- ---- The place of a change
 
@@ -59,8 +59,8 @@ module _ (listed : Listed) (change : Config) where
   place-found h l =
       let xs = take (listed .count) (listed .changes) in
       let q = is-first (sameConfig change) noConfig xs .passes (omega (arith, long)) in
-      sym (configs-decided .same-eq change (getD xs (first (sameConfig change) xs) noConfig) q
-      ∙ getD-take (listed .count) (listed .changes) (first (sameConfig change) xs) noConfig h)
+      sym (configs-decided .same-eq change (getD xs (firstPlace (sameConfig change) xs) noConfig) q
+      ∙ getD-take (listed .count) (listed .changes) (firstPlace (sameConfig change) xs) noConfig h)
 
   -- no change before the place is the one looked for: where the place is the number of changes, it is none of them
   pub place-new : (k : ℕ) → k < placeOf listed change → changeAt listed k ≡ change → ⊥

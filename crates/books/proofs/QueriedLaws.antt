@@ -10,10 +10,10 @@ use native.Mathlib.Omega.{arith}
 use borrow.Author.Tests.{not-true}
 use Rattle.sets.specs.Choice.{pick}
 use Rattle.sets.specs.Sets.{digit, has, inside}
-use Rattle.sets.specs.Below.{times}
+use Rattle.sets.specs.Bounded.{times}
 use Rattle.sets.proofs.Semilattice.{contained-refl, contained-antisym, contained-trans, contained-left, contained-right, contained-least}
 use Rattle.sets.proofs.SetLaws.{has-digit, digit-has, digit-high, has-inside}
-use Rattle.sets.proofs.BelowLaws.{both-left, both-right, both-on, pick-true, each-at, at-each, in-unions, unions-has, those-lt, those-has, in-those}
+use Rattle.sets.proofs.BoundedLaws.{both-left, both-right, both-on, pick-true, each-at, at-each, in-unions, unions-has, those-lt, those-has, in-those}
 use Rattle.books.specs.declared.Config.{Config}
 use Rattle.books.specs.declared.Listed.{Listed}
 use Rattle.books.specs.Books.{configInside, joinConfigs, membersOf, hasMajority}

@@ -15,13 +15,13 @@ use borrow.Author.Tests.{lt-ltb, le-ltb}
 use Rattle.sets.specs.Choice.{pick, both}
 use Rattle.sets.specs.Sets.{inside, union, members}
 use Rattle.sets.specs.Majority.{majorityOf}
-use Rattle.sets.specs.Below.{each, unions, those}
+use Rattle.sets.specs.Bounded.{each, unions, those}
 use Rattle.sets.proofs.SetLaws.{larger-not-inside}
-use Rattle.sets.proofs.BelowLaws.{both-yes, pick-true, pick-false, each-rest, unions-rest, those-in, those-lt}
+use Rattle.sets.proofs.BoundedLaws.{both-yes, pick-true, pick-false, each-rest, unions-rest, those-in, those-lt}
 use Rattle.books.specs.declared.Config.{Config}
 use Rattle.books.specs.declared.Listed.{Listed}
 use Rattle.books.specs.Books.{ownNotes, noConfig, sameConfig, membersOf, hasMajority}
-use Rattle.books.specs.Queried.{first, placeOf, changeAt, joinedWith, everyMajority, askedBoxes}
+use Rattle.books.specs.Queried.{firstPlace, placeOf, changeAt, joinedWith, everyMajority, askedBoxes}
 
 -- what owning an array of structs tells of its list: its length
 pub length-mapped : {X Y : Type 0} (f : X → Y) (l : List X) (n : ℕ) → length (map f l) ≡ n → length l ≡ n
@@ -29,38 +29,38 @@ length-mapped f l n e = sym (length-map l f) ∙ e
 
 -- ---- A tablet's own notes
 
-pub own-none : (tablet eight : ℕ) → 7 < tablet → record { set = 0 } ≡ ownNotes tablet eight
+pub own-none : (tablet own : ℕ) → 7 < tablet → record { set = 0 } ≡ ownNotes tablet own
 unfolding ownNotes
-own-none tablet eight h =
-    ap (λ (s : ℕ). record { set = s }) (pick-true 0 (eight % 2 ^ 8 * 2 ^ (8 * tablet)) (lt-ltb 7 tablet h))
+own-none tablet own h =
+    ap (λ (s : ℕ). record { set = s }) (pick-true 0 (own % 2 ^ 8 * 2 ^ (8 * tablet)) (lt-ltb 7 tablet h))
 
-pub own-placed : (tablet eight : ℕ) → tablet ≤ 7 → eight < 256
-    → record { set = eight * 2 ^ (8 * tablet) % 18446744073709551616 } ≡ ownNotes tablet eight
+pub own-placed : (tablet own : ℕ) → tablet ≤ 7 → own < 256
+    → record { set = own * 2 ^ (8 * tablet) % 18446744073709551616 } ≡ ownNotes tablet own
 unfolding ownNotes
-own-placed tablet eight h l =
+own-placed tablet own h l =
     ap (λ (s : ℕ). record { set = s })
     (shl-exact 8 (8 * tablet) 64 l (omega arith) ∙ ap (λ (n : ℕ). n * 2 ^ (8 * tablet)) (sym (mod-eq-of-lt l))
-    ∙ pick-false 0 (eight % 2 ^ 8 * 2 ^ (8 * tablet)) (le-ltb 7 tablet h))
+    ∙ pick-false 0 (own % 2 ^ 8 * 2 ^ (8 * tablet)) (le-ltb 7 tablet h))
 
 -- ---- Looking for a place in a list
 
 module _ {A : Type 0} (p : A → Bool) (d : A) (xs : List A) (i : ℕ) where
-  first-here : i < length xs → p (getD xs i d) ≡ true → first p (drop i xs) ≡ 0
-  unfolding first
+  first-here : i < length xs → p (getD xs i d) ≡ true → firstPlace p (drop i xs) ≡ 0
+  unfolding firstPlace
   first-here h e = rw (drop-cons xs i d h, e)
 
-  first-on : i < length xs → p (getD xs i d) ≡ false → i + first p (drop i xs) ≡ i + 1 + first p (drop (i + 1) xs)
-  unfolding first
+  first-on : i < length xs → p (getD xs i d) ≡ false → i + firstPlace p (drop i xs) ≡ i + 1 + firstPlace p (drop (i + 1) xs)
+  unfolding firstPlace
   first-on h e = rw (drop-cons xs i d h, e, add-one i) (omega arith)
 
-  first-end : length xs ≤ i → first p (drop i xs) ≡ 0
-  unfolding first
+  first-end : length xs ≤ i → firstPlace p (drop i xs) ≡ 0
+  unfolding firstPlace
   first-end h = rw (drop-of-length-le xs h)
 
 -- none of the changes before place i is the one looked for
 pub Sought : Listed → Config → ℕ → Type 0
 Sought listed change i =
-    placeOf listed change ≡ i + first (sameConfig change) (drop i (take (listed .count) (listed .changes)))
+    placeOf listed change ≡ i + firstPlace (sameConfig change) (drop i (take (listed .count) (listed .changes)))
 
 module _ (listed : Listed) (change : Config) (n : length (listed .changes) ≡ 6) where
   listed-length : length (take (listed .count) (listed .changes)) ≡ min (listed .count) 6

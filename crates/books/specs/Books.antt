@@ -3,7 +3,7 @@ use Prim.Native.Nat.{ℕ, _*_, _/_, _%_, _^_}
 use mathlib.Core.Bool.{Bool}
 use lib.Dec.{eqb, ltb}
 use Rattle.sets.specs.Choice.{pick, both}
-use Rattle.sets.specs.Sets.{union, inside, members}
+use Rattle.sets.specs.Sets.{has, union, inside, members}
 use Rattle.sets.specs.Majority.{majorityOf}
 use Rattle.books.specs.declared.Notes.{Notes}
 use Rattle.books.specs.declared.Config.{Config}
@@ -13,13 +13,21 @@ use Rattle.books.specs.declared.Book.{Book}
 abbrev pub owner : ℕ → ℕ
 owner note = note / 8
 
--- "Notes are a set of 64 bits, note n having weight 2^n": no notes
+-- "Notes are a set of 64 bits, note n having weight 2^n": the note is among them
+abbrev pub hasNote : ℕ → Notes → Bool
+hasNote note notes = has note (notes .set)
+
+-- the notes 64 k to 64 k + 63 as a set, the lowest of them having weight 1; none beyond the last
+abbrev pub notesPart : Notes → ℕ → ℕ
+notesPart notes k = pick (eqb k 0) (notes .set) 0
+
+-- no notes
 abbrev pub noNotes : Notes
 noNotes = record { set = 0 }
 
--- the tablet's own notes, eight bits of which its lowest number has weight 1, at their places among all; a tablet over 7 owns none
+-- the tablet's own notes, own bits of which its lowest number has weight 1, at their places among all; a tablet over 7 owns none
 unfoldable pub ownNotes : ℕ → ℕ → Notes
-ownNotes tablet eight = record { set = pick (ltb 7 tablet) 0 (eight % 2 ^ 8 * 2 ^ (8 * tablet)) }
+ownNotes tablet own = record { set = pick (ltb 7 tablet) 0 (own % 2 ^ 8 * 2 ^ (8 * tablet)) }
 
 -- "A configuration is two sets of boxes, added and removed": no boxes at all
 abbrev pub noConfig : Config

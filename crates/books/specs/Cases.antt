@@ -3,13 +3,13 @@ use Prim.Native.Nat.{ℕ, _^_}
 use mathlib.Core.Bool.{true, false}
 use mathlib.Core.Path.{_≡_, refl}
 use lib.ListN.{replicate, set}
-use Rattle.sets.specs.Below.{times, each, unions, those}
+use Rattle.sets.specs.Bounded.{times, each, unions, those}
 use Rattle.sets.specs.Majority.{weigh, one, majority, majorityOf}
 use Rattle.books.specs.declared.Config.{Config}
 use Rattle.books.specs.declared.Book.{Book}
 use Rattle.books.specs.declared.Listed.{Listed}
 use Rattle.books.specs.Books.{ownNotes, noConfig, membersOf, bookInside, joinBooks}
-use Rattle.books.specs.Queried.{first, placeOf, withChange, outside, joinedWith, everyMajority, askedBoxes}
+use Rattle.books.specs.Queried.{firstPlace, placeOf, withChange, outside, joinedWith, everyMajority, askedBoxes}
 
 -- a configuration, and a book
 abbrev config : ℕ → ℕ → Config
@@ -61,7 +61,7 @@ pub record Cases : Type 0 where
   every-one : everyMajority comes (config 0x1 0) 0x2 0x3 ≡ true
 
 pub cases : Cases
-unfolding ownNotes goes comes withChange placeOf first outside those joinedWith times askedBoxes unions everyMajority each majorityOf majority weigh one
+unfolding ownNotes goes comes withChange placeOf firstPlace outside those joinedWith times askedBoxes unions everyMajority each majorityOf majority weigh one
 cases =
     record {
       highest-note = refl;

@@ -6,7 +6,7 @@ use mathlib.Core.List.{List, [], _∷_}
 use lib.ListN.{getD, take, set}
 use Rattle.sets.specs.Choice.{pick, both}
 use Rattle.sets.specs.Sets.{has, inside}
-use Rattle.sets.specs.Below.{times, each, unions, those}
+use Rattle.sets.specs.Bounded.{times, each, unions, those}
 use Rattle.books.specs.declared.Config.{Config}
 use Rattle.books.specs.declared.Listed.{Listed}
 use Rattle.books.specs.Books.{noConfig, configInside, joinConfigs, sameConfig, membersOf, hasMajority}
@@ -16,13 +16,13 @@ abbrev pub changeAt : Listed → ℕ → Config
 changeAt listed k = getD (listed .changes) k noConfig
 
 -- the first place whose element passes, and the length where none does
-unfoldable pub first : {A : Type 0} → (A → Bool) → List A → ℕ
-first p [] = 0
-first p (x ∷ xs) = pick (p x) 0 (suc (first p xs))
+unfoldable pub firstPlace : {A : Type 0} → (A → Bool) → List A → ℕ
+firstPlace p [] = 0
+firstPlace p (x ∷ xs) = pick (p x) 0 (suc (firstPlace p xs))
 
 -- the place of a change among the listed ones, or their number
 unfoldable pub placeOf : Listed → Config → ℕ
-placeOf listed change = first (sameConfig change) (take (listed .count) (listed .changes))
+placeOf listed change = firstPlace (sameConfig change) (take (listed .count) (listed .changes))
 
 -- "is listed, behind the others"
 unfoldable pub withChange : Listed → Config → Listed

@@ -2,7 +2,7 @@
 ghost use mathlib.Core.Path.{_≡_};
 ghost use mathlib.Core.Logic.{_⊎_};
 ghost use Prim.Native.Nat.{_<_, _≤_};
-ghost use Rattle.books.specs.Books.{ownNotes, noNotes, noBook, membersOf, notesInside, configInside, bookInside, joinNotes, joinConfigs, joinBooks, sameNotes, sameConfig, hasMajority};
+ghost use Rattle.books.specs.Books.{notesPart, ownNotes, noNotes, noBook, membersOf, notesInside, configInside, bookInside, joinNotes, joinConfigs, joinBooks, sameNotes, sameConfig, hasMajority};
 ghost use Rattle.books.specs.Queried.{placeOf, outside, joinedWith, everyMajority, askedBoxes, stays};
 
 // Notes as a set: note n has weight 2^n. Books and candidates hold them as one value.
@@ -38,15 +38,15 @@ pub fn no_book() -> Book
     }
 }
 
-// A tablet's eight own notes at their places among all; a tablet over 7 owns none.
-pub fn own_notes(tablet: u8, eight: u8) -> Notes
-    ensures { λ r. ⌜ r ≡ ownNotes tablet eight ⌝ }
+// A tablet's own own notes at their places among all; a tablet over 7 owns none.
+pub fn own_notes(tablet: u8, own: u8) -> Notes
+    ensures { λ r. ⌜ r ≡ ownNotes tablet own ⌝ }
 {
     if 7 < tablet {
         return Notes { set: 0 };
     }
     Notes {
-        set: (eight as u64) << (8 * tablet),
+        set: (own as u64) << (8 * tablet),
     }
 }
 

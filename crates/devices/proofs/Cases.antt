@@ -6,7 +6,7 @@ use native.Mathlib.Omega.{arith}
 use lib.Pow.{shl-exact}
 use borrow.Author.Tests.{lt-ltb, le-ltb, le-leb, lt-leb}
 use Rattle.sets.specs.Sets.{union}
-use Rattle.sets.proofs.BelowLaws.{pick-true, pick-false}
+use Rattle.sets.proofs.BoundedLaws.{pick-true, pick-false}
 use Rattle.books.specs.declared.Notes.{Notes}
 use Rattle.books.specs.declared.Book.{Book}
 use Rattle.books.specs.declared.Listed.{Listed}

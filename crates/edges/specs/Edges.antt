@@ -3,10 +3,10 @@ use Prim.Native.Nat.{ℕ}
 use mathlib.Core.Bool.{Bool, true, false}
 use mathlib.Core.List.{List, [], _∷_}
 use mathlib.Core.Path.{_≡_, refl}
-use Rattle.sets.specs.Below.{times, each, unions, those}
+use Rattle.sets.specs.Bounded.{times, each, unions, those}
 use Rattle.sets.specs.Majority.{weigh, one, majority, majorityOf}
 use Rattle.books.specs.Books.{ownNotes}
-use Rattle.books.specs.Queried.{first, placeOf, withChange, outside, joinedWith, everyMajority, askedBoxes}
+use Rattle.books.specs.Queried.{firstPlace, placeOf, withChange, outside, joinedWith, everyMajority, askedBoxes}
 use Rattle.devices.specs.declared.Step.{Step}
 use Rattle.devices.specs.declared.Step.the-variants.{Ask, Advance, Deliver}
 use Rattle.devices.specs.Contents.{merged}
@@ -17,15 +17,15 @@ use Rattle.state.specs.State.{fresh, allDifferent, properDesk, proper}
 use Rattle.parlour.specs.Steps.{hereAt, applied, takenIf, taken}
 use Rattle.promise.specs.Promise.{after}
 use Rattle.tape.specs.Bits.{bit, odd, bits, num, bitsOf, word}
-use Rattle.tape.specs.Layout.{inRange, legal, mark}
+use Rattle.tape.specs.Layout.{fieldsAllowed, legal, mark}
 use Rattle.tape.specs.Printed.{stopsBox15}
-use Rattle.tape.specs.Reading.{begins, stepAt, endAt, kindAt, readAt, Outcome, given, refused, readFrom, readSteps, firstBoxes, headOf, readTape}
+use Rattle.tape.specs.Reading.{begins, stepAt, endAt, kindAt, readAt, Result, given, refused, readFrom, readSteps, firstBoxes, headOf, readTape}
 
 -- a row: boxes added, removed and answered, with the majority's yes or no; a tape, with what reading it comes to;
 -- or first boxes, a step and the steps before it, the latest first, with the step's number
 pub data Row : Type 0 where
   a-majority : ℕ → ℕ → ℕ → Bool → Row
-  a-tape : List ℕ → Outcome → Row
+  a-tape : List ℕ → Result → Row
   a-run : ℕ → Step → List Step → ℕ → Row
 
 -- what a row says
@@ -66,7 +66,7 @@ Hold (row ∷ rows) = Says row × Hold rows
 
 pub edges-hold : Hold edges
 unfolding after taken takenIf applied hereAt effectOf ruled ask askPair askWith begun marked deliver decided allowed steady commit adoptOr
-    advanceFrom advance refuse copies merged first placeOf withChange outside joinedWith everyMajority askedBoxes times each unions those weigh one majority
-    majorityOf ownNotes fresh allDifferent properDesk proper all many laid bit odd bits num bitsOf word inRange legal mark begins stepAt endAt
+    advanceFrom advance refuse copies merged firstPlace placeOf withChange outside joinedWith everyMajority askedBoxes times each unions those weigh one majority
+    majorityOf ownNotes fresh allDifferent properDesk proper all many laid bit odd bits num bitsOf word fieldsAllowed legal mark begins stepAt endAt
     kindAt readAt readFrom readSteps firstBoxes headOf readTape
 edges-hold = (refl, (refl, (refl, (refl, (refl, (refl, (refl, (refl, (refl, (refl, (refl, (refl, (refl, tt)))))))))))))

@@ -53,8 +53,8 @@ begins tablet outcome floor listed c h =
 
 -- what a tablet keeps once it took in what an ask brings, the pair given as a set of listed changes
 abbrev pub tookIn : ℕ → ℕ → ℕ → Listed → Here → Contents
-tookIn tablet eight named listed h =
-    merged listed (h .contents) (record { v = h .contents .v; candidates = ownNotes tablet eight; t = named })
+tookIn tablet own named listed h =
+    merged listed (h .contents) (record { v = h .contents .v; candidates = ownNotes tablet own; t = named })
 
 -- the commit of a book to all devices
 abbrev pub toAll : ℕ → Book → Sending
@@ -81,9 +81,9 @@ pub data Floored (a : Asking) (h : Here) : Floor → Type 0 where
 pub data Acts (proper : Bool) (h : Here) : Step → Message → Effect → Type 0 where
   -- by 1 only where the state is none
   refused : (step : Step) (m : Message) (n : ℕ) → (proper ≡ true → 2 ≤ n) → Acts proper h step m (refuse n h)
-  asks : (tablet eight : ℕ) (pair : Config) (m : Message) (listed : Listed) (named : ℕ) → tablet ≤ 7 → h .tablet .phase ≡ Idle
+  asks : (tablet own : ℕ) (pair : Config) (m : Message) (listed : Listed) (named : ℕ) → tablet ≤ 7 → h .tablet .phase ≡ Idle
       → h .tablet .round ≤ 1022 → Naming (h .contents .v .config) pair (h .listed) listed named
-      → Acts proper h (Ask tablet eight pair) m (begins tablet Done Unset listed (tookIn tablet eight named listed h) h)
+      → Acts proper h (Ask tablet own pair) m (begins tablet Done Unset listed (tookIn tablet own named listed h) h)
   hears-request : (slot : ℕ) (l : Letter) → Acts proper h (Deliver slot) (Request l)
       (heard (merged (h .listed) (h .contents) (l .contents)) (h .tablet) (answerTo l (merged (h .listed) (h .contents) (l .contents))) h)
   hears-answer : (slot : ℕ) (l : Letter) → Acts proper h (Deliver slot) (Answer l)
@@ -119,21 +119,21 @@ begun-either P tablet outcome floor listed c h r f =
     (λ e. either P (ltb (h .free) _) _ _ (λ d. r 10 (omega arith)) (λ d. f (ltb-false 1022 (h .tablet .round) e)))
 
 module _ (proper : Bool) (m : Message) (h : Here) where
-  ask-acts : (tablet eight : ℕ) (pair : Config) → tablet ≤ 7 → Acts proper h (Ask tablet eight pair) m (ask tablet eight pair h)
+  ask-acts : (tablet own : ℕ) (pair : Config) → tablet ≤ 7 → Acts proper h (Ask tablet own pair) m (ask tablet own pair h)
   unfolding ask askPair askWith
-  ask-acts tablet eight pair l =
+  ask-acts tablet own pair l =
       either P (h .stopped) _ _ (λ e. refused _ m 3 (λ p. omega arith)) (λ e. in-phase (h .tablet .phase) refl)
     where
       P : Effect → Type 0
-      P = Acts proper h (Ask tablet eight pair) m
+      P = Acts proper h (Ask tablet own pair) m
 
       with-naming : (listed : Listed) (named : ℕ) → h .tablet .phase ≡ Idle → Naming (h .contents .v .config) pair (h .listed) listed named
-          → P (askWith tablet eight named listed h)
+          → P (askWith tablet own named listed h)
       with-naming listed named i n =
-          begun-either P tablet Done Unset listed (tookIn tablet eight named listed h) h (λ n l. refused _ m n (λ p. l))
-          (λ r. asks tablet eight pair m listed named l i r n)
+          begun-either P tablet Done Unset listed (tookIn tablet own named listed h) h (λ n l. refused _ m n (λ p. l))
+          (λ r. asks tablet own pair m listed named l i r n)
 
-      in-phase : (phase : Phase) → h .tablet .phase ≡ phase → P (askIn tablet eight pair phase h)
+      in-phase : (phase : Phase) → h .tablet .phase ≡ phase → P (askIn tablet own pair phase h)
       in-phase (Asks a) i = refused _ m 4 (λ p. omega arith)
       in-phase Idle i =
           either P (configInside pair (h .contents .v .config)) _ _ (λ e. with-naming (h .listed) 0 i (contained e))
@@ -183,7 +183,7 @@ deliver-acts proper slot (Commit n) h =
 
 ruled-acts : (proper : Bool) (step : Step) (m : Message) (h : Here) → inRange step ≡ true → Acts proper h step m (ruled step m h)
 unfolding ruled lose again stop
-ruled-acts proper (Ask tablet eight pair) m h e = ask-acts proper m h tablet eight pair (leb-true tablet 7 e)
+ruled-acts proper (Ask tablet own pair) m h e = ask-acts proper m h tablet own pair (leb-true tablet 7 e)
 ruled-acts proper (Advance tablet) m h e = advance-acts proper m h tablet (leb-true tablet 7 e)
 ruled-acts proper (Deliver slot) m h e = deliver-acts proper slot m h
 ruled-acts proper (Lose slot) m h e = either (Acts proper h (Lose slot) m) (isEmpty m) _ _ (λ d. refused _ m 7 (λ p. omega arith)) (λ d. loses slot m)

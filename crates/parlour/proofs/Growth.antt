@@ -23,16 +23,16 @@ use Rattle.devices.specs.Effects.{refuse}
 use Rattle.state.specs.declared.Run.{Run}
 use Rattle.state.proofs.SlotLaws.{replaced-at}
 use Rattle.parlour.specs.Steps.{hereAt, applied, takenIf, taken}
-use Rattle.parlour.specs.Statements.{deviceAt, Below}
+use Rattle.parlour.specs.Statements.{deviceAt, Grown}
 use Rattle.parlour.proofs.Acts.{Acts, refused, asks, hears-request, hears-answer, hears-commit, goes-on, commits, adopts, loses, repeats, stops, deviceFor, hereFor, effectFor, acts-for}
 
 -- ---- The order
 
-pub below-same : (listed : Listed) (c : Contents) → Below listed c c
+pub below-same : (listed : Listed) (c : Contents) → Grown listed c c
 below-same listed c =
     record { v = contained-refl books-joined (c .v); candidates = contained-refl notes-joined (c .candidates); changes = λ k l h. inl h }
 
-pub below-through : (listed : Listed) (a b c : Contents) → Below listed a b → Below listed b c → Below listed a c
+pub below-through : (listed : Listed) (a b c : Contents) → Grown listed a b → Grown listed b c → Grown listed a c
 below-through listed a b c p q =
     record {
       v = contained-trans books-joined (a .v) (b .v) (c .v) (p .v) (q .v);
@@ -52,7 +52,7 @@ module _ (listed : Listed) (mine theirs : Contents) where
   -- above each side whose v, candidates and T are contained in the joins
   above-side : (side : Contents) → bookInside (side .v) (joinBooks (mine .v) (theirs .v)) ≡ true
       → notesInside (side .candidates) (joinNotes (mine .candidates) (theirs .candidates)) ≡ true
-      → ((k : ℕ) → digit k (side .t) ≡ 1 → digit k (union (mine .t) (theirs .t)) ≡ 1) → Below listed side (merged listed mine theirs)
+      → ((k : ℕ) → digit k (side .t) ≡ 1 → digit k (union (mine .t) (theirs .t)) ≡ 1) → Grown listed side (merged listed mine theirs)
   unfolding merged
   above-side side v candidates t =
       record { v = v; candidates = candidates; changes = λ k l h. go k l (t k (has-digit k (side .t) h)) (configInside (changeAt listed k) config) refl }
@@ -65,22 +65,22 @@ module _ (listed : Listed) (mine theirs : Contents) where
       go k l h true e = inr e
       go k l h false e = inl (digit-has k _ (outside-has listed config (union (mine .t) (theirs .t)) k l h e))
 
-  pub above-mine : Below listed mine (merged listed mine theirs)
+  pub above-mine : Grown listed mine (merged listed mine theirs)
   above-mine =
       above-side mine (contained-left books-joined (mine .v) (theirs .v)) (contained-left notes-joined (mine .candidates) (theirs .candidates))
       (λ k. union-has-left k (mine .t) (theirs .t))
 
-  pub above-theirs : Below listed theirs (merged listed mine theirs)
+  pub above-theirs : Grown listed theirs (merged listed mine theirs)
   above-theirs =
       above-side theirs (contained-right books-joined (mine .v) (theirs .v)) (contained-right notes-joined (mine .candidates) (theirs .candidates))
       (λ k. union-has-right k (mine .t) (theirs .t))
 
 -- ---- Steps
 
-acts-grow : {known : Bool} {step : Step} {m : Message} {e : Effect} (h : Here) → Acts known h step m e → Below (e .listed) (h .contents) (e .contents)
+acts-grow : {known : Bool} {step : Step} {m : Message} {e : Effect} (h : Here) → Acts known h step m e → Grown (e .listed) (h .contents) (e .contents)
 unfolding refuse
 acts-grow h (refused step m n b) = below-same _ _
-acts-grow h (asks tablet eight pair m listed named l i r n) = above-mine listed (h .contents) _
+acts-grow h (asks tablet own pair m listed named l i r n) = above-mine listed (h .contents) _
 acts-grow h (hears-request slot l) = above-mine (h .listed) (h .contents) _
 acts-grow h (hears-answer slot l) = above-mine (h .listed) (h .contents) _
 acts-grow h (hears-commit slot n) = above-mine (h .listed) (h .contents) _
@@ -91,9 +91,9 @@ acts-grow h (loses slot m) = below-same _ _
 acts-grow h (repeats slot m) = below-same _ _
 acts-grow h (stops device m) = below-same _ _
 
-pub step-grows : (step : Step) (r : Run) (q : ℕ) → Below (taken step r .run .listed) (deviceAt q r) (deviceAt q (taken step r .run))
+pub step-grows : (step : Step) (r : Run) (q : ℕ) → Grown (taken step r .run .listed) (deviceAt q r) (deviceAt q (taken step r .run))
 unfolding taken takenIf applied hereAt
 step-grows step r q =
     let e = effectFor step r in
-    replaced-at (Below (e .listed)) (below-same (e .listed)) (freshContents 0) (r .devices) (deviceFor step r) (e .contents)
+    replaced-at (Grown (e .listed)) (below-same (e .listed)) (freshContents 0) (r .devices) (deviceFor step r) (e .contents)
     (acts-grow (hereFor step r) (acts-for step r)) q

@@ -44,7 +44,7 @@ use Rattle.parlour.proofs.ProperStays.{listed-stays, listed-longer}
 -- ---- The slot and the device that a step in range names are those that it is about
 
 slot-named : (step : Step) → inRange step ≡ true → slotOf step ≡ slotNamed step
-slot-named (Ask tablet eight pair) h = refl
+slot-named (Ask tablet own pair) h = refl
 slot-named (Advance tablet) h = refl
 slot-named (Deliver slot) h = sym (within-in 128 slot (omega (arith, leb-true slot 127 h)))
 slot-named (Lose slot) h = sym (within-in 128 slot (omega (arith, leb-true slot 127 h)))
@@ -52,7 +52,7 @@ slot-named (Repeat slot) h = sym (within-in 128 slot (omega (arith, leb-true slo
 slot-named (Stop device) h = refl
 
 device-named : (n : ℕ) (step : Step) (m : Message) → inRange step ≡ true → properMessage n m ≡ true → deviceOf step m ≡ deviceNamed step m
-device-named n (Ask tablet eight pair) m h p = sym (within-in 24 tablet (omega (arith, leb-true tablet 7 h)))
+device-named n (Ask tablet own pair) m h p = sym (within-in 24 tablet (omega (arith, leb-true tablet 7 h)))
 device-named n (Advance tablet) m h p = sym (within-in 24 tablet (omega (arith, leb-true tablet 7 h)))
 device-named n (Deliver slot) m h p = sym (within-in 24 (addressee m) (addressee-to n m p))
 device-named n (Lose slot) m h p = refl
@@ -76,7 +76,7 @@ acts-leave : {known : Bool} {step : Step} {m : Message} {e : Effect} (h : Here) 
     → slot ≡ slotNamed step → d ≡ deviceNamed step m → Acts known h step m e → Leaves step m slot d h e
 unfolding refuse
 acts-leave h n slot d p s a (refused step m k b) = record { contents = inl refl; tablet = inl refl; frees = inl refl; stops = inl refl }
-acts-leave h n slot d p s a (asks tablet eight pair m listed named l i r x) =
+acts-leave h n slot d p s a (asks tablet own pair m listed named l i r x) =
     record { contents = inr a; tablet = inr (tablet-place a (omega arith)); frees = inl refl; stops = inl refl }
 acts-leave h n slot d p s a (hears-request k l) = record { contents = inr a; tablet = inl refl; frees = inr s; stops = inl refl }
 acts-leave h n slot d p s a (hears-answer k l) =
@@ -147,7 +147,7 @@ acts-refused : {known : Bool} {step : Step} {m : Message} {e : Effect} (n : ℕ)
     → e ≡ refuse n h
 unfolding refuse
 acts-refused n h (refused step m k b) q = let i : k ≡ n = cc in ap (λ (x : ℕ). refuse x h) i
-acts-refused n h (asks tablet eight pair m listed named l i r x) q = cc
+acts-refused n h (asks tablet own pair m listed named l i r x) q = cc
 acts-refused n h (hears-request slot l) q = cc
 acts-refused n h (hears-answer slot l) q = cc
 acts-refused n h (hears-commit slot c) q = cc

@@ -12,7 +12,7 @@ use lib.ListN.{getD, drop, set, length}
 use borrow.Author.Tests.{ltb-true, ltb-false}
 use Rattle.sets.specs.Choice.{pick, both}
 use Rattle.sets.specs.Sets.{has}
-use Rattle.sets.proofs.BelowLaws.{both-left, both-right, both-yes}
+use Rattle.sets.proofs.BoundedLaws.{both-left, both-right, both-yes}
 use Rattle.devices.specs.declared.Message.{Message}
 use Rattle.devices.specs.declared.Step.{Step}
 use Rattle.devices.specs.Effects.{addressed, copies}

@@ -8,7 +8,7 @@ use lib.Pow.{shl-exact}
 use borrow.Author.Tests.{lt-ltb, le-ltb, ltb-true}
 use Rattle.sets.specs.Choice.{pick}
 use Rattle.sets.specs.Sets.{union}
-use Rattle.sets.proofs.BelowLaws.{pick-true, pick-false}
+use Rattle.sets.proofs.BoundedLaws.{pick-true, pick-false}
 use Rattle.devices.specs.declared.Message.{Message}
 use Rattle.devices.specs.declared.Step.{Step}
 use Rattle.parlour.specs.Steps.{within, slotOf, deviceOf}

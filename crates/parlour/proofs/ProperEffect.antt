@@ -10,7 +10,7 @@ use borrow.Author.Tests.{lt-ltb, le-leb}
 use Rattle.sets.specs.Choice.{pick, both}
 use Rattle.sets.specs.Sets.{has, union}
 use Rattle.sets.proofs.SetLaws.{has-digit, union-lt, inside-le}
-use Rattle.sets.proofs.BelowLaws.{both-left, both-right, both-on}
+use Rattle.sets.proofs.BoundedLaws.{both-left, both-right, both-on}
 use Rattle.books.specs.declared.Listed.{Listed}
 use Rattle.books.specs.Books.{joinConfigs}
 use Rattle.books.specs.Queried.{askedBoxes}

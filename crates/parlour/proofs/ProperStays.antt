@@ -11,7 +11,7 @@ use lib.Pow.{pow-pos}
 use borrow.Author.Tests.{lt-ltb}
 use Rattle.sets.specs.Choice.{both}
 use Rattle.sets.specs.Sets.{has}
-use Rattle.sets.proofs.BelowLaws.{both-on}
+use Rattle.sets.proofs.BoundedLaws.{both-on}
 use Rattle.books.specs.Queried.{changeAt}
 use Rattle.devices.specs.declared.Contents.{Contents}
 use Rattle.devices.specs.declared.Tablet.{Tablet}
@@ -65,7 +65,7 @@ acts-proper : {known : Bool} {step : Step} {m : Message} {e : Effect} (h : Here)
     → Acts known h step m e → ProperEffect (h .listed .count) e
 unfolding refuse
 acts-proper h p q (refused step m n b) = settled-proper _ _ _ _ _ _ h p (p .contents) (p .tablet) (λ d u i. refl)
-acts-proper h p q (asks tablet eight pair m listed named l i r n) =
+acts-proper h p q (asks tablet own pair m listed named l i r n) =
     begins-proper tablet _ _ listed _ h l r (naming-more n) (naming-few n (p .few)) (naming-different n (p .long) (p .different))
     (merged-fits (listed .count) listed _ _ (fits-more (naming-more n) (p .contents)) (naming-fits n))
 acts-proper h p q (hears-request slot l) =
@@ -97,7 +97,7 @@ acts-proper h p q (stops device m) = settled-proper _ _ _ _ _ _ h p (p .contents
 acts-lists : {known : Bool} {h : Here} {step : Step} {m : Message} {e : Effect} → Acts known h step m e → Lists (h .listed) (e .listed)
 unfolding refuse
 acts-lists (refused step m n b) = as-before
-acts-lists (asks tablet eight pair m listed named l i r n) = by-ask n
+acts-lists (asks tablet own pair m listed named l i r n) = by-ask n
 acts-lists (hears-request slot l) = as-before
 acts-lists (hears-answer slot l) = as-before
 acts-lists (hears-commit slot n) = as-before
@@ -115,7 +115,7 @@ acts-not-1 : {known : Bool} {h : Here} {step : Step} {m : Message} {e : Effect} 
     → numberOf (e .outcome) ≡ 1 → ⊥
 unfolding refuse
 acts-not-1 p (refused step m n b) q = let l = b p in omega arith
-acts-not-1 p (asks tablet eight pair m listed named l i r n) q = omega (arith, q)
+acts-not-1 p (asks tablet own pair m listed named l i r n) q = omega (arith, q)
 acts-not-1 p (hears-request slot l) q = omega (arith, q)
 acts-not-1 p (hears-answer slot l) q = omega (arith, q)
 acts-not-1 p (hears-commit slot n) q = omega (arith, q)

@@ -47,7 +47,7 @@ deliver-free (Commit n) free h = refl
 
 ruled-free : (step : Step) (m : Message) (free : ℕ) (h : Here) → countsFree step ≡ false → ruled step m (withFree free h) ≡ ruled step m h
 unfolding ruled lose stop refuse
-ruled-free (Ask tablet eight pair) m free h e = let z : _≡_ {A = ℕ} 0 1 = cc in absurd (lt-irrefl 0 (omega arith))
+ruled-free (Ask tablet own pair) m free h e = let z : _≡_ {A = ℕ} 0 1 = cc in absurd (lt-irrefl 0 (omega arith))
 ruled-free (Advance tablet) m free h e = let z : _≡_ {A = ℕ} 0 1 = cc in absurd (lt-irrefl 0 (omega arith))
 ruled-free (Deliver slot) m free h e = deliver-free m free h
 ruled-free (Lose slot) m free h e = refl

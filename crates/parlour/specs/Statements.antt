@@ -56,7 +56,7 @@ RefusalsLeave = (step : Step) (r : Run) (n : ℕ) → taken step r .outcome ≡ 
 
 -- the device that may change: the acting tablet, or the addressee
 abbrev pub Acting : Step → Message → ℕ → Type 0
-Acting (Ask tablet eight pair) m q = q ≡ tablet
+Acting (Ask tablet own pair) m q = q ≡ tablet
 Acting (Advance tablet) m q = q ≡ tablet
 Acting (Deliver slot) m q = q ≡ addressee m
 Acting (Lose slot) m q = ⊥
@@ -65,7 +65,7 @@ Acting (Stop device) m q = ⊥
 
 -- the slot that may be freed
 abbrev pub Frees : Step → ℕ → Type 0
-Frees (Ask tablet eight pair) k = ⊥
+Frees (Ask tablet own pair) k = ⊥
 Frees (Advance tablet) k = ⊥
 Frees (Deliver slot) k = k ≡ slot
 Frees (Lose slot) k = k ≡ slot
@@ -74,7 +74,7 @@ Frees (Stop device) k = ⊥
 
 -- the device that may be stopped
 abbrev pub Halts : Step → ℕ → Type 0
-Halts (Ask tablet eight pair) q = ⊥
+Halts (Ask tablet own pair) q = ⊥
 Halts (Advance tablet) q = ⊥
 Halts (Deliver slot) q = ⊥
 Halts (Lose slot) q = ⊥
@@ -114,7 +114,7 @@ pub record ProperStays : Type 0 where
 -- ---- Contents only grow (001, Property 5.1 and Lemma 5.1)
 
 -- the order of Property 5.1: the new v and candidates contain the old, and each change of the old T is in the new T or contained in the new v's configuration
-pub record Below (listed : Listed) (old new : Contents) : Type 0 where
+pub record Grown (listed : Listed) (old new : Contents) : Type 0 where
   pub v : bookInside (old .v) (new .v) ≡ true
   pub candidates : notesInside (old .candidates) (new .candidates) ≡ true
   pub changes : (k : ℕ) → k < 6 → has k (old .t) ≡ true
@@ -122,13 +122,13 @@ pub record Below (listed : Listed) (old new : Contents) : Type 0 where
 
 pub record ContentsGrow : Type 0 where
   -- "the reflexivity .. and transitivity" of Property 5.1
-  pub same : (listed : Listed) (c : Contents) → Below listed c c
-  pub through : (listed : Listed) (a b c : Contents) → Below listed a b → Below listed b c → Below listed a c
+  pub same : (listed : Listed) (c : Contents) → Grown listed c c
+  pub through : (listed : Listed) (a b c : Contents) → Grown listed a b → Grown listed b c → Grown listed a c
   -- Lemma 5.1: a merge is above both sides
-  pub above-mine : (listed : Listed) (mine theirs : Contents) → Below listed mine (merged listed mine theirs)
-  pub above-theirs : (listed : Listed) (mine theirs : Contents) → Below listed theirs (merged listed mine theirs)
+  pub above-mine : (listed : Listed) (mine theirs : Contents) → Grown listed mine (merged listed mine theirs)
+  pub above-theirs : (listed : Listed) (mine theirs : Contents) → Grown listed theirs (merged listed mine theirs)
   -- so no step takes anything from any device
-  pub in-a-step : (step : Step) (r : Run) (d : ℕ) → Below (taken step r .run .listed) (deviceAt d r) (deviceAt d (taken step r .run))
+  pub in-a-step : (step : Step) (r : Run) (d : ℕ) → Grown (taken step r .run .listed) (deviceAt d r) (deviceAt d (taken step r .run))
 
 -- ---- "New messages take the lowest free slots, in order."
 

@@ -30,7 +30,7 @@ within bound n = pick (ltb n bound) n 0
 
 -- the slot that a step names
 abbrev pub slotNamed : Step → ℕ
-slotNamed (Ask tablet eight pair) = 0
+slotNamed (Ask tablet own pair) = 0
 slotNamed (Advance tablet) = 0
 slotNamed (Deliver slot) = slot
 slotNamed (Lose slot) = slot
@@ -43,7 +43,7 @@ slotOf step = within 128 (slotNamed step)
 
 -- the acting tablet, the addressee, or the device to stop
 abbrev pub deviceNamed : Step → Message → ℕ
-deviceNamed (Ask tablet eight pair) m = tablet
+deviceNamed (Ask tablet own pair) m = tablet
 deviceNamed (Advance tablet) m = tablet
 deviceNamed (Deliver slot) m = addressee m
 deviceNamed (Lose slot) m = 0

@@ -5,7 +5,7 @@ use Rattle.devices.specs.declared.Step.the-variants.{Ask, Advance, Deliver, Los
 
 -- a step to which the number of free slots matters
 abbrev pub countsFree : Step → Bool
-countsFree (Ask tablet eight pair) = true
+countsFree (Ask tablet own pair) = true
 countsFree (Advance tablet) = true
 countsFree (Deliver slot) = false
 countsFree (Lose slot) = false

@@ -6,7 +6,7 @@ use mathlib.Core.Bool.{Bool, true, false, cond}
 use native.Mathlib.Omega.{arith}
 use lib.ListN.{length, drop, getD, length-append}
 use lib.Dec.{leb}
-use Rattle.tape.specs.Reading.{Outcome, given, refused, readTape, firstBoxes}
+use Rattle.tape.specs.Reading.{Result, given, refused, readTape, firstBoxes}
 use Rattle.tape.specs.Promises.{Answer, answer, readAnswer, answerWith, heldBy, ReadPromise}
 use Rattle.tape.specs.declared.Read.{Read}
 use Rattle.tape.specs.declared.Read.the-variants as R
@@ -16,7 +16,7 @@ no-refusal : (first n k : ℕ) → answer 0 (first ∷ n ∷ []) ≡ answer k []
 no-refusal first n k e = let z : _≡_ {A = ℕ} 2 0 = ap (λ (a : Answer). length (a .values)) e in omega arith
 
 module _ (boxes first n : ℕ) (row : List ℕ) where
-  steps-held : (o : Outcome) → answer 0 (first ∷ n ∷ []) ≡ answerWith (length row) (λ xs. boxes ∷ length xs ∷ []) o → n ≤ length (heldBy row o)
+  steps-held : (o : Result) → answer 0 (first ∷ n ∷ []) ≡ answerWith (length row) (λ xs. boxes ∷ length xs ∷ []) o → n ≤ length (heldBy row o)
   steps-held (given xs) e = go (leb (length xs) (length row)) e
     where
       go : (b : Bool) → answer 0 (first ∷ n ∷ []) ≡ cond b (answer 0 (boxes ∷ length xs ∷ [])) (answer 16 []) → n ≤ length (cond b (xs ++ drop (length xs) row) row)

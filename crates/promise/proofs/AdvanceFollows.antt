@@ -9,7 +9,7 @@ use native.Mathlib.Numerals.{add-one}
 use native.Mathlib.Omega.{arith}
 use lib.Dec.{eqb}
 use borrow.Author.Tests.{eqb-true}
-use Rattle.sets.proofs.BelowLaws.{both-left, both-right, pick-true}
+use Rattle.sets.proofs.BoundedLaws.{both-left, both-right, pick-true}
 use Rattle.books.specs.declared.Book.{Book}
 use Rattle.books.specs.Books.{sameNotes, sameConfig}
 use Rattle.books.specs.Queried.{everyMajority}

@@ -53,25 +53,25 @@ books-shown {s = s} like b =
 
 -- ---- The ask
 
-module _ {first : AbstractBook parlour} {r : Run} {h : List Event} (now : Standing first r h) (slot d : ℕ) (tablet eight : ℕ) (pair : Config)
+module _ {first : AbstractBook parlour} {r : Run} {h : List Event} (now : Standing first r h) (slot d : ℕ) (tablet own : ℕ) (pair : Config)
     (listed : Listed) (named : ℕ) (at : tablet ≡ d) (l : tablet ≤ 7) (free : hereAt d r .tablet .phase ≡ Idle)
     (naming : Naming (hereAt d r .contents .v .config) pair (r .listed) listed named) where
   abbrev s : State parlour
   s = now .follows .state
 
   abbrev event : Event
-  event = record { step = Ask tablet eight pair; answer = Done }
+  event = record { step = Ask tablet own pair; answer = Done }
 
   -- what the tablet keeps after it, and the whole effect
   abbrev c : Contents
-  c = tookIn tablet eight named listed (hereAt d r)
+  c = tookIn tablet own named listed (hereAt d r)
 
   abbrev effect : Effect
   effect = begins tablet Done Unset listed c (hereAt d r)
 
   -- the argument's book, tablet, request and state after it
   abbrev b : AbstractBook parlour
-  b = asBook (brought (Ask tablet eight pair))
+  b = asBook (brought (Ask tablet own pair))
 
   abbrev round : ℕ
   round = s .tablets d .round
@@ -128,7 +128,7 @@ module _ {first : AbstractBook parlour} {r : Run} {h : List Event} (now : Standi
         ask =
             record {
               tablet = tablet;
-              eight = eight;
+              own = own;
               pair = pair;
               event = event;
               earlier = h;
@@ -166,7 +166,7 @@ module _ {first : AbstractBook parlour} {r : Run} {h : List Event} (now : Standi
         before = asContents listed (deviceAt d r);
         brought = b;
         after = asContents listed c;
-        merge = asked-as listed (deviceAt d r) (ownNotes tablet eight) pair named (naming-only naming (now .sized .changes) (now .parts .few)) known;
+        merge = asked-as listed (deviceAt d r) (ownNotes tablet own) pair named (naming-only naming (now .sized .changes) (now .parts .few)) known;
         answered = 0;
         none-answered = none-in-empty;
         moves = moves-tablet s d _ t (s′ .network) (s .handed) (s′ .asks) was;
@@ -182,7 +182,7 @@ module _ {first : AbstractBook parlour} {r : Run} {h : List Event} (now : Standi
         state = s′;
         run = next (now .follows .run) (ask step);
         like =
-            after-tablet now (Ask tablet eight pair) slot d effect grows (omega arith) (λ q j. ne-eqb tablet q (λ e. j (sym e ∙ at))) t (s′ .network)
+            after-tablet now (Ask tablet own pair) slot d effect grows (omega arith) (λ q j. ne-eqb tablet q (λ e. j (sym e ∙ at))) t (s′ .network)
             (s .handed) (s′ .asks) mine-after (λ q. refl) (record { requests = λ q j. inr j; answers = λ q j. j; commits = λ q j. j })
             (λ j u k. inl sent) (λ g j. j) (λ q j. absurd (silent-done q j)) asks-after;
       }

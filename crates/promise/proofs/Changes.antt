@@ -9,9 +9,9 @@ use native.Mathlib.Nat.{lt-irrefl, eq-or-lt-of-le, le-of-suc-le-suc}
 use native.Mathlib.Omega.{arith}
 use Rattle.sets.specs.Choice.{pick, both}
 use Rattle.sets.specs.Sets.{has, inside}
-use Rattle.sets.specs.Below.{times, those}
+use Rattle.sets.specs.Bounded.{times, those}
 use Rattle.sets.proofs.SetLaws.{has-digit, digit-has, has-inside}
-use Rattle.sets.proofs.BelowLaws.{both-left, both-right, both-on, those-lt, those-has, in-those}
+use Rattle.sets.proofs.BoundedLaws.{both-left, both-right, both-on, those-lt, those-has, in-those}
 use Rattle.books.specs.declared.Config.{Config}
 use Rattle.books.specs.declared.Listed.{Listed}
 use Rattle.books.specs.Books.{joinConfigs, sameConfig, hasMajority}

@@ -4,11 +4,11 @@
 use mathlib.Core.Path.{_≡_, refl}
 use mathlib.Core.Logic.{inl}
 use mathlib.Core.List.{List, [], _∷_}
-use Rattle.sets.specs.Below.{times, each, unions, those}
+use Rattle.sets.specs.Bounded.{times, each, unions, those}
 use Rattle.sets.specs.Majority.{weigh, one, majority, majorityOf}
 use Rattle.books.specs.declared.Book.{Book}
 use Rattle.books.specs.Books.{ownNotes, noConfig}
-use Rattle.books.specs.Queried.{first, placeOf, outside, joinedWith, everyMajority, askedBoxes}
+use Rattle.books.specs.Queried.{firstPlace, placeOf, outside, joinedWith, everyMajority, askedBoxes}
 use Rattle.devices.specs.declared.Step.{Step}
 use Rattle.devices.specs.declared.Step.the-variants.{Ask, Advance, Deliver}
 use Rattle.devices.specs.declared.Outcome.{Outcome}
@@ -49,7 +49,7 @@ record Examples : Type 0 where
 
 examples : Examples
 unfolding answers history after taken takenIf applied hereAt effectOf ruled ask askPair askWith begun marked deliver decided allowed steady
-    commit adoptOr advanceFrom advance refuse copies merged placeOf first outside joinedWith everyMajority askedBoxes times each unions those
+    commit adoptOr advanceFrom advance refuse copies merged placeOf firstPlace outside joinedWith everyMajority askedBoxes times each unions those
     weigh one majority majorityOf ownNotes fresh allDifferent properDesk proper all many laid
 examples =
     record {

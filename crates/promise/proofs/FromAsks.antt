@@ -103,7 +103,7 @@ earlier-ask {event} {earlier} {tablet} e a = go (a .happened)
   where
     go : Happened (a .event) (a .earlier) (event ∷ earlier) → Happened (a .event) (a .earlier) earlier
     go (inl q) =
-        let x : Ask (a .tablet) (a .eight) (a .pair) ≡ Advance tablet = sym (a .step) ∙ ap (λ (w : Event). w .step) (q .0) ∙ e in
+        let x : Ask (a .tablet) (a .own) (a .pair) ≡ Advance tablet = sym (a .step) ∙ ap (λ (w : Event). w .step) (q .0) ∙ e in
         let z : _≡_ {A = ℕ} 0 1 = cc in
         absurd (lt-irrefl 0 (omega arith))
     go (inr i) = i
@@ -113,7 +113,7 @@ earlier-ask {event} {earlier} {tablet} e a = go (a .happened)
 -- an accepted ask that brought it
 pub record BroughtBy (set : AbstractBook parlour → ℕ) (n : ℕ) (h : List Event) : Type 0 where
   pub ask : AcceptedAsk h
-  pub there : digit n (set (asBook (brought (Ask (ask .tablet) (ask .eight) (ask .pair))))) ≡ 1
+  pub there : digit n (set (asBook (brought (Ask (ask .tablet) (ask .own) (ask .pair))))) ≡ 1
 
 module _ (set : AbstractBook parlour → ℕ) (joins : (a b : AbstractBook parlour) → set (joined a b) ≡ union (set a) (set b)) (n first : ℕ) where
   -- of the latest book
@@ -142,7 +142,7 @@ module _ (set : AbstractBook parlour → ℕ) (joins : (a b : AbstractBook parlo
             ask =
                 record {
                   tablet = a .ask .tablet;
-                  eight = a .ask .eight;
+                  own = a .ask .own;
                   pair = a .ask .pair;
                   event = a .ask .event;
                   earlier = a .ask .earlier;

@@ -42,7 +42,7 @@ abbrev pub ask-stays : {event : Event} {h : List Event} → AcceptedAsk h → Ac
 ask-stays a =
     record {
       tablet = a .tablet;
-      eight = a .eight;
+      own = a .own;
       pair = a .pair;
       event = a .event;
       earlier = a .earlier;

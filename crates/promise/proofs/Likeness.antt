@@ -12,7 +12,7 @@ use borrow.Author.Tests.{ltb-true, ltb-false}
 use Rattle.sets.specs.Choice.{both}
 use Rattle.sets.specs.Sets.{has}
 use Rattle.sets.proofs.SetLaws.{has-digit, digit-high}
-use Rattle.sets.proofs.BelowLaws.{both-right}
+use Rattle.sets.proofs.BoundedLaws.{both-right}
 use Rattle.books.specs.declared.Book.{Book}
 use Rattle.books.specs.declared.Listed.{Listed}
 use Rattle.books.specs.Queried.{changeAt}

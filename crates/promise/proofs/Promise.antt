@@ -23,14 +23,14 @@ use Rattle.promise.proofs.Following.{Follows}
 use Rattle.promise.proofs.StepFollows.{firstBook, run-stands}
 use Rattle.promise.proofs.FromAsks.{comes-from}
 
--- "Tablet t owns 8t to 8t+7": a note among a tablet's own eight is the tablet's
-own-note : (tablet eight note : ℕ) → digit note (ownNotes tablet eight .set) ≡ 1 → tablet ≡ owner note
+-- "Tablet t owns 8t to 8t+7": a note among a tablet's own own is the tablet's
+own-note : (tablet own note : ℕ) → digit note (ownNotes tablet own .set) ≡ 1 → tablet ≡ owner note
 unfolding ownNotes
-own-note tablet eight note h = go (ltb 7 tablet) h
+own-note tablet own note h = go (ltb 7 tablet) h
   where
-    go : (b : Bool) → digit note (pick b 0 (eight % 2 ^ 8 * 2 ^ (8 * tablet))) ≡ 1 → tablet ≡ owner note
+    go : (b : Bool) → digit note (pick b 0 (own % 2 ^ 8 * 2 ^ (8 * tablet))) ≡ 1 → tablet ≡ owner note
     go true i = absurd (none-in-empty note i)
-    go false i = let m = in-moved 8 (8 * tablet) (eight % 2 ^ 8) note (mod-lt eight (pow-pos 8)) i in omega arith
+    go false i = let m = in-moved 8 (8 * tablet) (own % 2 ^ 8) note (mod-lt own (pow-pos 8)) i in omega arith
 
 module _ (first : ℕ) (steps : List Step) where
   follows : Follows (firstBook first) (after first steps) (history first steps)
@@ -59,7 +59,7 @@ module _ (first : ℕ) (steps : List Step) where
   note-asked : (a : HandedBack (history first steps)) (note : ℕ) → digit note (a .book .notes .set) ≡ 1 → NoteAsked note (a .earlier)
   note-asked a note i =
       ⊎-elim (λ none. absurd (none-in-empty note none))
-      (λ q. record { ask = q .ask; there = q .there; by-owner = own-note (q .ask .tablet) (q .ask .eight) note (q .there) })
+      (λ q. record { ask = q .ask; there = q .there; by-owner = own-note (q .ask .tablet) (q .ask .own) note (q .there) })
       (comes-from (λ b. b .notes .set) (λ x y. refl) note first steps a i)
 
   box-added : (a : HandedBack (history first steps)) (box : ℕ) → digit box (a .book .config .added) ≡ 1

@@ -103,8 +103,8 @@ module _ {first : AbstractBook parlour} {r : Run} {h : List Event} (now : Standi
       → Follows first (applied slot d e r .run) (record { step = step; answer = e .outcome } ∷ h)
   unfolding hereAt refuse
   acts-follow (refused step m n b) at q was = quiet-follows step (Refused n) false false noSending (λ k. refl) (silent-refused n) (λ j u i. tt)
-  acts-follow (asks tablet eight pair m listed named l i x naming) at q was =
-      ask-follows now slot d tablet eight pair listed named (named-here at (omega arith)) l i naming
+  acts-follow (asks tablet own pair m listed named l i x naming) at q was =
+      ask-follows now slot d tablet own pair listed named (named-here at (omega arith)) l i naming
   acts-follow (hears-request k l) at q was =
       let to = request-to (r .listed .count) l q in
       let e : l .to ≡ d = named-here at (to .1) in

@@ -74,17 +74,17 @@ accepted (Refused n) = false
 -- an accepted ask of a history
 pub record AcceptedAsk (h : List Event) : Type 0 where
   pub tablet : ℕ
-  pub eight : ℕ
+  pub own : ℕ
   pub pair : Config
   pub event : Event
   pub earlier : List Event
   pub happened : Happened event earlier h
-  pub step : event .step ≡ Ask tablet eight pair
+  pub step : event .step ≡ Ask tablet own pair
   pub answer : accepted (event .answer) ≡ true
 
 -- the step is an ask of the tablet
 abbrev pub isAskOf : ℕ → Step → Bool
-isAskOf t (Ask tablet eight pair) = eqb tablet t
+isAskOf t (Ask tablet own pair) = eqb tablet t
 isAskOf t (Advance tablet) = false
 isAskOf t (Deliver slot) = false
 isAskOf t (Lose slot) = false
@@ -93,7 +93,7 @@ isAskOf t (Stop device) = false
 
 -- what a step brings: an ask its tablet's own notes and its pair, any other step nothing
 abbrev pub brought : Step → Book
-brought (Ask tablet eight pair) = record { notes = ownNotes tablet eight; config = pair }
+brought (Ask tablet own pair) = record { notes = ownNotes tablet own; config = pair }
 brought (Advance tablet) = noBook
 brought (Deliver slot) = noBook
 brought (Lose slot) = noBook
@@ -122,7 +122,7 @@ pub record ContainsOwnAsk (event : Event) (earlier : List Event) (book : Book) :
 -- the note was among the own notes of an accepted ask, and the ask was of the note's owner, tablet n / 8
 pub record NoteAsked (note : ℕ) (h : List Event) : Type 0 where
   pub ask : AcceptedAsk h
-  pub there : digit note (ownNotes (ask .tablet) (ask .eight) .set) ≡ 1
+  pub there : digit note (ownNotes (ask .tablet) (ask .own) .set) ≡ 1
   pub by-owner : ask .tablet ≡ owner note
 
 -- an accepted ask added the box, or removed it

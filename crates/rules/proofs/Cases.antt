@@ -75,20 +75,20 @@ shifted-8 boxes l = shl-exact 16 8 32 l (omega arith)
 
 -- ---- Ask
 
-module _ (tablet eight : ℕ) (pair : Config) (h : Here) {e : Effect} where
-  pub asks-contained : configInside pair (h .contents .v .config) ≡ true → e ≡ askWith tablet eight 0 (h .listed) h → e ≡ askPair tablet eight pair h
+module _ (tablet own : ℕ) (pair : Config) (h : Here) {e : Effect} where
+  pub asks-contained : configInside pair (h .contents .v .config) ≡ true → e ≡ askWith tablet own 0 (h .listed) h → e ≡ askPair tablet own pair h
   unfolding askPair
   asks-contained i p = chosen _ _ i p
 
   pub asks-listed : {place mask : ℕ} → configInside pair (h .contents .v .config) ≡ false → place ≡ placeOf (h .listed) pair → place < h .listed .count
-      → mask ≡ 2 ^ place → e ≡ askWith tablet eight mask (h .listed) h → e ≡ askPair tablet eight pair h
+      → mask ≡ 2 ^ place → e ≡ askWith tablet own mask (h .listed) h → e ≡ askPair tablet own pair h
   unfolding askPair
   asks-listed i q l m p =
       let k : placeOf (h .listed) pair < h .listed .count = rw (← q) l in
       passed _ _ i (chosen _ _ (lt-ltb _ _ k) (rw (m, q) at p))
 
   pub asks-seventh : {place : ℕ} → configInside pair (h .contents .v .config) ≡ false → place ≡ placeOf (h .listed) pair → h .listed .count ≤ place
-      → 5 < h .listed .count → e ≡ refuse 8 h → e ≡ askPair tablet eight pair h
+      → 5 < h .listed .count → e ≡ refuse 8 h → e ≡ askPair tablet own pair h
   unfolding askPair
   asks-seventh i q l n p =
       let k : h .listed .count ≤ placeOf (h .listed) pair = rw (← q) l in
@@ -96,8 +96,8 @@ module _ (tablet eight : ℕ) (pair : Config) (h : Here) {e : Effect} where
 
   pub asks-new : {place mask : ℕ} → configInside pair (h .contents .v .config) ≡ false → place ≡ placeOf (h .listed) pair → h .listed .count ≤ place
       → h .listed .count ≤ 5 → mask ≡ 2 ^ (h .listed .count)
-      → e ≡ askWith tablet eight mask (record { changes = set (h .listed .changes) (h .listed .count) pair; count = h .listed .count + 1 }) h
-      → e ≡ askPair tablet eight pair h
+      → e ≡ askWith tablet own mask (record { changes = set (h .listed .changes) (h .listed .count) pair; count = h .listed .count + 1 }) h
+      → e ≡ askPair tablet own pair h
   unfolding askPair withChange
   asks-new i q l n m p =
       let k : h .listed .count ≤ placeOf (h .listed) pair = rw (← q) l in
@@ -110,8 +110,8 @@ one-change k h =
 
 -- ---- By the phase, the message, the step: what holds of the case that was met
 
-pub ask-as : (tablet eight : ℕ) (pair : Config) (h : Here) {p q : Phase} {e : Effect} → p ≡ q → e ≡ askIn tablet eight pair q h → e ≡ askIn tablet eight pair p h
-ask-as tablet eight pair h i e = e ∙ ap (λ (x : Phase). askIn tablet eight pair x h) (sym i)
+pub ask-as : (tablet own : ℕ) (pair : Config) (h : Here) {p q : Phase} {e : Effect} → p ≡ q → e ≡ askIn tablet own pair q h → e ≡ askIn tablet own pair p h
+ask-as tablet own pair h i e = e ∙ ap (λ (x : Phase). askIn tablet own pair x h) (sym i)
 
 pub advance-as : (tablet : ℕ) (h : Here) {p q : Phase} {e : Effect} → p ≡ q → e ≡ advanceIn tablet q h → e ≡ advanceIn tablet p h
 advance-as tablet h i e = e ∙ ap (λ (x : Phase). advanceIn tablet x h) (sym i)

@@ -67,27 +67,27 @@ begun tablet outcome floor listed c h =
 
 -- "Merge the notes and the pair into the tablet, floor unset, begin a round", the pair given as a set of listed changes
 unfoldable pub askWith : ℕ → ℕ → ℕ → Listed → Here → Effect
-askWith tablet eight pair listed h =
+askWith tablet own pair listed h =
     begun tablet Done Unset listed
-    (merged listed (h .contents) (record { v = h .contents .v; candidates = ownNotes tablet eight; t = pair }))
+    (merged listed (h .contents) (record { v = h .contents .v; candidates = ownNotes tablet own; t = pair }))
     h
 
 -- "A pair not contained in the tablet's v and not listed yet is listed, behind the others": 8 for a seventh
 unfoldable pub askPair : ℕ → ℕ → Config → Here → Effect
-askPair tablet eight pair h =
-    pick (configInside pair (h .contents .v .config)) (askWith tablet eight 0 (h .listed) h)
-    (pick (ltb (placeOf (h .listed) pair) (h .listed .count)) (askWith tablet eight (2 ^ placeOf (h .listed) pair) (h .listed) h)
+askPair tablet own pair h =
+    pick (configInside pair (h .contents .v .config)) (askWith tablet own 0 (h .listed) h)
+    (pick (ltb (placeOf (h .listed) pair) (h .listed .count)) (askWith tablet own (2 ^ placeOf (h .listed) pair) (h .listed) h)
     (pick (ltb 5 (h .listed .count)) (refuse 8 h)
-    (askWith tablet eight (2 ^ (h .listed .count)) (withChange (h .listed) pair) h)))
+    (askWith tablet own (2 ^ (h .listed .count)) (withChange (h .listed) pair) h)))
 
 -- "4: Ask while asking"
 abbrev pub askIn : ℕ → ℕ → Config → Phase → Here → Effect
-askIn tablet eight pair Idle h = askPair tablet eight pair h
-askIn tablet eight pair (Asks a) h = refuse 4 h
+askIn tablet own pair Idle h = askPair tablet own pair h
+askIn tablet own pair (Asks a) h = refuse 4 h
 
 -- Ask: 3, 4, 8, 9, 10
 unfoldable pub ask : ℕ → ℕ → Config → Here → Effect
-ask tablet eight pair h = pick (h .stopped) (refuse 3 h) (askIn tablet eight pair (h .tablet .phase) h)
+ask tablet own pair h = pick (h .stopped) (refuse 3 h) (askIn tablet own pair (h .tablet .phase) h)
 
 -- ---- Deliver (lines 16 and 17)
 
@@ -223,7 +223,7 @@ stop h = pick (h .stopped) (refuse 3 h) (leaves false true noSending h)
 
 -- "tablet over 7, slot over 127, device over 23" are refused by 2
 abbrev pub inRange : Step → Bool
-inRange (Ask tablet eight pair) = leb tablet 7
+inRange (Ask tablet own pair) = leb tablet 7
 inRange (Advance tablet) = leb tablet 7
 inRange (Deliver slot) = leb slot 127
 inRange (Lose slot) = leb slot 127
@@ -232,7 +232,7 @@ inRange (Stop device) = leb device 23
 
 -- the rule of each step
 unfoldable pub ruled : Step → Message → Here → Effect
-ruled (Ask tablet eight pair) m h = ask tablet eight pair h
+ruled (Ask tablet own pair) m h = ask tablet own pair h
 ruled (Advance tablet) m h = advance tablet h
 ruled (Deliver slot) m h = deliver m h
 ruled (Lose slot) m h = lose m h

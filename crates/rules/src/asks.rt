@@ -12,12 +12,12 @@ ghost use Prim.Native.Nat.{_<_, _^_};
 ghost use Rattle.rules.specs.Rules.{askWith, askPair, ask};
 
 // The notes and the pair, as a set of listed changes, are merged in, and a round begins.
-fn ask_with(tablet: u8, eight: u8, pair: u8, listed: Listed, h: Here) -> Effect
-    ensures { λ r. ⌜ r ≡ askWith tablet eight pair listed h ⌝ }
+fn ask_with(tablet: u8, own: u8, pair: u8, listed: Listed, h: Here) -> Effect
+    ensures { λ r. ⌜ r ≡ askWith tablet own pair listed h ⌝ }
 {
     let mine = h.contents;
     let v = mine.v;
-    let own = books::own_notes(tablet, eight);
+    let own = books::own_notes(tablet, own);
     let c = devices::merge(
         listed,
         mine,
@@ -39,17 +39,17 @@ fn only_change(place: usize) -> u8
 }
 
 // A pair that is contained in v is named by no change; one that is listed by its place; another is listed behind the others.
-fn ask_pair(tablet: u8, eight: u8, pair: Config, h: Here) -> Effect
-    ensures { λ r. ⌜ r ≡ askPair tablet eight pair h ⌝ }
+fn ask_pair(tablet: u8, own: u8, pair: Config, h: Here) -> Effect
+    ensures { λ r. ⌜ r ≡ askPair tablet own pair h ⌝ }
 {
     let v = h.contents.v;
     let listed = h.listed;
     if books::config_inside(pair, v.config) {
-        return ask_with(tablet, eight, 0, listed, h);
+        return ask_with(tablet, own, 0, listed, h);
     }
     let place = books::place_of(listed, pair);
     if place < listed.count {
-        return ask_with(tablet, eight, only_change(place), listed, h);
+        return ask_with(tablet, own, only_change(place), listed, h);
     }
     let count = listed.count;
     if 5 < count {
@@ -58,11 +58,11 @@ fn ask_pair(tablet: u8, eight: u8, pair: Config, h: Here) -> Effect
     let mut more = listed;
     more.changes[count] = pair;
     more.count = count + 1;
-    ask_with(tablet, eight, only_change(count), more, h)
+    ask_with(tablet, own, only_change(count), more, h)
 }
 
-pub(crate) fn ask_rule(tablet: u8, eight: u8, pair: Config, h: Here) -> Effect
-    ensures { λ r. ⌜ r ≡ ask tablet eight pair h ⌝ }
+pub(crate) fn ask_rule(tablet: u8, own: u8, pair: Config, h: Here) -> Effect
+    ensures { λ r. ⌜ r ≡ ask tablet own pair h ⌝ }
 {
     if h.stopped {
         return devices::refuse_with(3, h);
@@ -70,7 +70,7 @@ pub(crate) fn ask_rule(tablet: u8, eight: u8, pair: Config, h: Here) -> Effect
     let x = h.tablet;
     let phase = x.phase;
     match phase {
-        Phase::Idle => ask_pair(tablet, eight, pair, h),
+        Phase::Idle => ask_pair(tablet, own, pair, h),
         Phase::Asks(_) => devices::refuse_with(4, h),
     }
 }

@@ -1,5 +1,5 @@
 pub mod Semilattice
 pub mod SetLaws
-pub mod BelowLaws
+pub mod BoundedLaws
 pub mod Parts
 pub mod MajorityLaws

@@ -9,7 +9,7 @@ use lib.Dec.{eqb}
 use borrow.Author.Tests.{eqb-true, eq-eqb}
 use Rattle.sets.specs.Choice.{both}
 use Rattle.sets.proofs.Semilattice.{Semilattice}
-use Rattle.sets.proofs.BelowLaws.{both-left, both-right, both-on}
+use Rattle.sets.proofs.BoundedLaws.{both-left, both-right, both-on}
 
 pair : {A B : Type 0} {a c : A} {b d : B} → a ≡ c → b ≡ d → _≡_ {A = A × B} (a, b) (c, d)
 pair {A} {B} p q = ap₂ (λ (a : A) (b : B). (a, b)) p q

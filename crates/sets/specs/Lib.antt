@@ -1,4 +1,5 @@
+pub mod Settles
 pub mod Choice
 pub mod Sets
-pub mod Below
+pub mod Bounded
 pub mod Majority

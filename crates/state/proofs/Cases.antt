@@ -7,7 +7,7 @@ use lib.ListN.{replicate}
 use lib.Dec.{ltb}
 use borrow.Author.Tests.{lt-ltb, le-ltb, eq-eqb, ne-eqb}
 use Rattle.sets.specs.Choice.{both}
-use Rattle.sets.proofs.BelowLaws.{pick-true, pick-false}
+use Rattle.sets.proofs.BoundedLaws.{pick-true, pick-false}
 use Rattle.books.specs.declared.Book.{Book}
 use Rattle.books.specs.declared.Listed.{Listed}
 use Rattle.books.specs.Books.{noConfig, noBook}

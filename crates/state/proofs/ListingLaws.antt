@@ -9,7 +9,7 @@ use lib.ListN.{length}
 use lib.Pow.{pow-mono}
 use lib.Dec.{leb}
 use Rattle.sets.specs.Choice.{both}
-use Rattle.sets.proofs.BelowLaws.{both-left, both-right, both-on}
+use Rattle.sets.proofs.BoundedLaws.{both-left, both-right, both-on}
 use Rattle.books.specs.declared.Config.{Config}
 use Rattle.books.specs.declared.Listed.{Listed}
 use Rattle.books.specs.Queried.{changeAt, withChange}

@@ -14,7 +14,7 @@ use lib.ListN.{getD, take, drop, set, length, drop-of-length-le, take-append-dro
 use lib.Seq.{drop-cons, take-all, take-suc, take-suc-set, drop-set-lt, append-snoc}
 use borrow.Author.Tests.{not-true}
 use Rattle.sets.specs.Choice.{pick, both}
-use Rattle.sets.proofs.BelowLaws.{both-left, both-right, both-on, both-yes, both-assoc}
+use Rattle.sets.proofs.BoundedLaws.{both-left, both-right, both-on, both-yes, both-assoc}
 use Rattle.devices.specs.declared.Message.{Message}
 use Rattle.devices.specs.declared.Message.the-variants.{Empty, Request, Answer, Commit}
 use Rattle.devices.specs.Effects.{isEmpty}

@@ -11,8 +11,8 @@ use lib.Pow.{pow-pos, split}
 use lib.Dec.{ltb, leb}
 use borrow.Author.Tests.{eqb-true, eq-eqb, ltb-true, leb-true, leb-false, le-leb, lt-leb, le-ltb, not-true}
 use Rattle.sets.specs.Choice.{both}
-use Rattle.sets.specs.Below.{each}
-use Rattle.sets.proofs.BelowLaws.{both-left, both-right, both-on, both-true, both-false, both-assoc, pick-false, each-at, at-each}
+use Rattle.sets.specs.Bounded.{each}
+use Rattle.sets.proofs.BoundedLaws.{both-left, both-right, both-on, both-true, both-false, both-assoc, pick-false, each-at, at-each}
 use Rattle.sets.proofs.Parts.{ne-same, same-ne}
 use Rattle.books.specs.declared.Listed.{Listed}
 use Rattle.books.specs.Books.{noConfig, sameConfig}

@@ -6,7 +6,7 @@ use mathlib.Core.Path.{_≡_}
 use lib.Dec.{ltb, leb, eqb}
 use lib.ListN.{replicate}
 use Rattle.sets.specs.Choice.{pick, both}
-use Rattle.sets.specs.Below.{each}
+use Rattle.sets.specs.Bounded.{each}
 use Rattle.books.specs.declared.Listed.{Listed}
 use Rattle.books.specs.Books.{noConfig, sameConfig}
 use Rattle.books.specs.Queried.{changeAt}

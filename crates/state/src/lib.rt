@@ -11,7 +11,7 @@ use devices::Tablet;
 ghost use mathlib.Core.Path.{_≡_};
 ghost use mathlib.Core.Bool.{not};
 ghost use Prim.Native.Nat.{_<_, _≤_};
-ghost use Rattle.sets.specs.Below.{each};
+ghost use Rattle.sets.specs.Bounded.{each};
 ghost use Rattle.books.specs.Books.{sameConfig};
 ghost use Rattle.books.specs.Queried.{changeAt};
 ghost use Rattle.state.specs.Slots.{all};

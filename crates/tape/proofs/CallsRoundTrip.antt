@@ -9,7 +9,7 @@ use lib.ListN.{length, take, drop}
 use lib.Seq.{take-at}
 use lib.Dec.{leb}
 use borrow.Author.Tests.{leb-true}
-use Rattle.tape.specs.Reading.{Outcome, given, refused, readTape, firstBoxes}
+use Rattle.tape.specs.Reading.{Result, given, refused, readTape, firstBoxes}
 use Rattle.tape.specs.Writing.{writeTape}
 use Rattle.tape.specs.Promises.{answer, answerWith, heldBy, ReadPromise, WritePromise}
 use Rattle.tape.specs.declared.Read.{Read}
@@ -22,13 +22,13 @@ use Rattle.tape.proofs.RoundTrip.{read-written, written-again}
 use Rattle.tape.proofs.Settled.{read-settled, write-settled}
 
 -- an answer that has values is a success that fits
-record Success (n : ℕ) (vs : List ℕ → List ℕ) (o : Outcome) (v : List ℕ) : Type 0 where
+record Success (n : ℕ) (vs : List ℕ → List ℕ) (o : Result) (v : List ℕ) : Type 0 where
   xs : List ℕ
   is : o ≡ given xs
   fits : length xs ≤ n
   values : v ≡ vs xs
 
-success : (n : ℕ) (vs : List ℕ → List ℕ) (o : Outcome) (x : ℕ) (v : List ℕ) → answer 0 (x ∷ v) ≡ answerWith n vs o → Success n vs o (x ∷ v)
+success : (n : ℕ) (vs : List ℕ → List ℕ) (o : Result) (x : ℕ) (v : List ℕ) → answer 0 (x ∷ v) ≡ answerWith n vs o → Success n vs o (x ∷ v)
 success n vs (given xs) x v e = go (leb (length xs) n) refl (ap (λ a. a .values) e)
   where
     go : (b : Bool) → leb (length xs) n ≡ b → x ∷ v ≡ cond b (answer 0 (vs xs)) (answer 16 []) .values → Success n vs (given xs) (x ∷ v)
@@ -37,7 +37,7 @@ success n vs (given xs) x v e = go (leb (length xs) n) refl (ap (λ a. a .values
 success n vs (refused k) x v e = let h : x ∷ v ≡ [] = ap (λ a. a .values) e in let z : _≡_ {A = ℕ} 0 1 = cc in absurd (omega arith)
 
 -- what a success leaves at the front of what is lent
-front : (lent after : List ℕ) (o : Outcome) (xs : List ℕ) (n : ℕ) → after ≡ heldBy lent o → o ≡ given xs → length xs ≤ length lent → n ≡ length xs → take n after ≡ xs
+front : (lent after : List ℕ) (o : Result) (xs : List ℕ) (n : ℕ) → after ≡ heldBy lent o → o ≡ given xs → length xs ≤ length lent → n ≡ length xs → take n after ≡ xs
 front lent after o xs n h e l m =
     let k = success-kept lent (λ z. z) o xs e l in
     ap₂ take m (h ∙ sym (k .held)) ∙ take-at xs (drop (length xs) lent) (length xs) refl

@@ -10,7 +10,7 @@ use lib.Seq.{take-take, drop-drop}
 use lib.Dec.{leb, eqb}
 use borrow.Author.Tests.{le-leb, leb-true, eqb-true}
 use Rattle.tape.specs.Bits.{num, bits, fieldAt}
-use Rattle.tape.specs.Layout.{Field, rows, fields, span, stepWidth, width, inRange, legal, mark, numbers, fieldsOf, noField, row}
+use Rattle.tape.specs.Layout.{Field, rows, fields, span, stepWidth, width, fieldsAllowed, legal, mark, numbers, fieldsOf, noField, row}
 use Rattle.tape.proofs.BitLaws.{length-bits, num-take-lt, drop-take}
 use Rattle.tape.proofs.WordLaws.{field-inside}
 
@@ -135,8 +135,8 @@ plain : List Field → Bool
 plain [] = true
 plain (x ∷ xs) = cond (eqb (x .least) 0) (allFull xs) false
 
-in-full : (xs : List Field) (f : List Bool) → allFull xs ≡ true → inRange xs f ≡ true
-unfolding allFull full inRange
+in-full : (xs : List Field) (f : List Bool) → allFull xs ≡ true → fieldsAllowed xs f ≡ true
+unfolding allFull full fieldsAllowed
 in-full [] f h = refl
 in-full (x ∷ xs) f h =
     let a = both (full x) h in
@@ -147,8 +147,8 @@ in-full (x ∷ xs) f h =
     let m : num (take (x .width) f) ≤ x .most = omega (arith, num-take-lt f (x .width)) in
     simp (le-leb _ _ l, le-leb _ _ m) (in-full xs (drop (x .width) f) (a .1))
 
-in-plain : (xs : List Field) (f : List Bool) → plain xs ≡ true → inRange xs f ≡ leb (num (take (row xs .first) f)) (row xs .most)
-unfolding plain inRange num
+in-plain : (xs : List Field) (f : List Bool) → plain xs ≡ true → fieldsAllowed xs f ≡ leb (num (take (row xs .first) f)) (row xs .most)
+unfolding plain fieldsAllowed num
 in-plain [] f h = refl
 in-plain (x ∷ xs) f h =
     let a = both (eqb (x .least) 0) h in
@@ -186,4 +186,4 @@ legal-first x k e h =
     ∙ ap (take (r .first)) (drop-take 3 (w - 3) b (rw length-bits (omega arith)))
     ∙ take-take (r .first) (w - 3) (drop 3 b) (omega arith) in
     ap (λ n. leb n (r .most)) (field-inside x 3 (r .first) (omega (arith, width-most 1 k)) ∙ ap num (sym d))
-    ∙ sym (ap (λ n. inRange (fields 1 n) (drop 3 (take w b))) g ∙ in-plain (fields 1 k) (drop 3 (take w b)) (rows-plain k))
+    ∙ sym (ap (λ n. fieldsAllowed (fields 1 n) (drop 3 (take w b))) g ∙ in-plain (fields 1 k) (drop 3 (take w b)) (rows-plain k))

@@ -14,7 +14,7 @@ use types.Run.{OneOf}
 use denote.Enum.Declared.{tagOf}
 use Rattle.tape.specs.Bits.{bit, num, bits, word, Ahead}
 use Rattle.tape.specs.Layout.{width, legal, mark}
-use Rattle.tape.specs.Reading.{stepAt, kindAt, endAt, begins, readAt, Outcome, given, refused, more, onward, readFrom}
+use Rattle.tape.specs.Reading.{stepAt, kindAt, endAt, begins, readAt, Result, given, refused, more, onward, readFrom}
 use Rattle.tape.specs.Promises.{numberWith, numberAtEnd}
 use Rattle.tape.specs.declared.reading.Reading.{Reading}
 use Rattle.tape.specs.declared.reading.Reading.the-variants.{Step, Refused, End}
@@ -200,7 +200,7 @@ module _ (t : List Bool) (p : ℕ) where
       go false f = sym (first-kind k (omega arith) e (eqb-false _ _ f) ∙ kind-none 1 t p k z)
 
 -- one step more, and what is left
-pub more-is : (x : ℕ) (o : Outcome) (l : List ℕ) → more x o ≡ given l → (ys : List ℕ) × (o ≡ given ys) × (l ≡ x ∷ ys)
+pub more-is : (x : ℕ) (o : Result) (l : List ℕ) → more x o ≡ given l → (ys : List ℕ) × (o ≡ given ys) × (l ≡ x ∷ ys)
 more-is x (given ys) l e = (ys, refl, cc)
 more-is x (refused k) l e = let z : _≡_ {A = ℕ} 0 1 = cc in absurd (omega arith)
 
@@ -218,7 +218,7 @@ steps-fewer ed (suc f) t p xs e = go (readAt ed t p) e (λ (q : ℕ) (ys : List 
     go End e ih = let q : [] ≡ xs = cc in omega (arith, ap length q)
 
 -- a refusal has a number other than 0
-abbrev pub Numbered : Outcome → Type 0
+abbrev pub Numbered : Result → Type 0
 Numbered (given xs) = Unit {0}
 Numbered (refused k) = 0 < k
 
@@ -233,7 +233,7 @@ numbered-from ed zero t p = omega arith
 numbered-from ed (suc f) t p =
     go (readAt ed t p) (read-has ed t p NumberedAt (λ k h. h) (λ _ _ _. tt) (λ _ _ _ _ _ _. tt)) (λ q. numbered-from ed f t q)
   where
-    before : (x : ℕ) (o : Outcome) → Numbered o → Numbered (more x o)
+    before : (x : ℕ) (o : Result) → Numbered o → Numbered (more x o)
     before x (given xs) h = tt
     before x (refused k) h = h
 
@@ -243,18 +243,18 @@ numbered-from ed (suc f) t p =
     go End h ih = tt
 
 -- the number at a reading that is no step
-pub last-is : (r : Reading) (m n : ℕ) (rest : ℕ → Outcome) → OneOf (1 ∷ 2 ∷ []) (tagOf the-type r) → numberAtEnd r m n ≡ numberWith n m (onward r rest)
+pub last-is : (r : Reading) (m n : ℕ) (rest : ℕ → Result) → OneOf (1 ∷ 2 ∷ []) (tagOf the-type r) → numberAtEnd r m n ≡ numberWith n m (onward r rest)
 last-is (Step x q) m n rest h = absurd (⊎-elim (λ (e : _≡_ {A = ℕ} 0 1). omega arith) (λ (e : _≡_ {A = ℕ} 0 2). omega arith) h)
 last-is (Refused k) m n rest h = refl
 last-is End m n rest h = ap (λ j. cond (leb j n) 0 16) (sym (add-zero m))
 
 -- one step more before the rest
-pub one-more : (n m x : ℕ) (o : Outcome) → numberWith n m (more x o) ≡ numberWith n (m + 1) o
+pub one-more : (n m x : ℕ) (o : Result) → numberWith n m (more x o) ≡ numberWith n (m + 1) o
 one-more n m x (given xs) = let e : m + suc (length xs) ≡ m + 1 + length xs = omega arith in ap (λ j. cond (leb j n) 0 16) e
 one-more n m x (refused k) = refl
 
 -- at a reading that is no step nothing is left
-pub none-left : (r : Reading) (rest : ℕ → Outcome) (l : List ℕ) → OneOf (1 ∷ 2 ∷ []) (tagOf the-type r) → onward r rest ≡ given l → l ≡ []
+pub none-left : (r : Reading) (rest : ℕ → Result) (l : List ℕ) → OneOf (1 ∷ 2 ∷ []) (tagOf the-type r) → onward r rest ≡ given l → l ≡ []
 none-left (Step x q) rest l h e = absurd (⊎-elim (λ (e : _≡_ {A = ℕ} 0 1). omega arith) (λ (e : _≡_ {A = ℕ} 0 2). omega arith) h)
 none-left (Refused k) rest l h e = let z : _≡_ {A = ℕ} 0 1 = cc in absurd (omega arith)
 none-left End rest l h e = cc

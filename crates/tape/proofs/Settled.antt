@@ -9,7 +9,7 @@ use lib.ListN.{length}
 use borrow.Author.Tests.{le-leb}
 use Rattle.tape.specs.Bits.{fieldAt}
 use Rattle.tape.specs.Layout.{fieldsIn}
-use Rattle.tape.specs.Reading.{Outcome, given, refused, readTape, firstBoxes}
+use Rattle.tape.specs.Reading.{Result, given, refused, readTape, firstBoxes}
 use Rattle.tape.specs.Writing.{isStep}
 use Rattle.tape.specs.Promises.{readAnswer, writtenAnswer, answerWith, number, CheckPromise, ReadPromise, WritePromise}
 use Rattle.tape.specs.declared.Read.{Read}
@@ -53,7 +53,7 @@ fields-settled x r s a b = a ∙ sym b
 pub is-step-settled : (x : ℕ) (r s : Bool) → r ≡ isStep 1 x → s ≡ isStep 1 x → r ≡ s
 is-step-settled x r s a b = a ∙ sym b
 
-number-of : (n : ℕ) (vs : List ℕ → List ℕ) (o : Outcome) → ((xs : List ℕ) → o ≡ given xs → length xs ≤ n) → answerWith n vs o .number ≡ number o
+number-of : (n : ℕ) (vs : List ℕ → List ℕ) (o : Result) → ((xs : List ℕ) → o ≡ given xs → length xs ≤ n) → answerWith n vs o .number ≡ number o
 number-of n vs (given xs) h = simp (le-leb _ _ (h xs refl))
 number-of n vs (refused k) h = refl
 

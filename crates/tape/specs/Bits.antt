@@ -47,6 +47,6 @@ window (suc n) s i = bits 8 (getD s i 0) ++ window n s (suc i)
 abbrev pub Ahead : List Bool → ℕ → ℕ → Type 0
 Ahead t p x = (w : ℕ) → w ≤ 57 → p + w ≤ length t → take w (bits 64 x) ≡ take w (drop p t)
 
--- a list of bits laid over another from p on
-unfoldable pub laid : List Bool → ℕ → List Bool → List Bool
-laid l p f = (take p l ++ f) ++ drop (p + length f) l
+-- a list of bits overlaid over another from p on
+unfoldable pub overlaid : List Bool → ℕ → List Bool → List Bool
+overlaid l p f = (take p l ++ f) ++ drop (p + length f) l

@@ -63,14 +63,14 @@ abbrev pub width : ℕ → ℕ → ℕ
 width ed k = stepWidth (fields ed k)
 
 -- each field of some bits holds a number that it may hold
-unfoldable pub inRange : List Field → List Bool → Bool
-inRange [] f = true
-inRange (x ∷ xs) f =
-    cond (leb (x .least) (num (take (x .width) f))) (cond (leb (num (take (x .width) f)) (x .most)) (inRange xs (drop (x .width) f)) false) false
+unfoldable pub fieldsAllowed : List Field → List Bool → Bool
+fieldsAllowed [] f = true
+fieldsAllowed (x ∷ xs) f =
+    cond (leb (x .least) (num (take (x .width) f))) (cond (leb (num (take (x .width) f)) (x .most)) (fieldsAllowed xs (drop (x .width) f)) false) false
 
 -- the bits of a step, its kind among them, hold numbers that they may hold
 unfoldable pub legal : ℕ → List Bool → Bool
-legal ed f = inRange (fields ed (num (take 3 f))) (drop 3 f)
+legal ed f = fieldsAllowed (fields ed (num (take 3 f))) (drop 3 f)
 
 -- "Kind 7 ends it"
 unfoldable pub mark : ℕ → List Bool
@@ -96,8 +96,8 @@ fieldsIn ed x = record {
 }
 
 -- a layout as the code has it: the bits of the step, those of each field, and the most that the first may hold
-abbrev pub stepOf : ℕ → ℕ → ℕ → ℕ → ℕ → Layout
-stepOf a b c d m = record { width = 3 + a + b + c + d; first = a; second = b; third = c; fourth = d; most = m }
+abbrev pub layoutWith : ℕ → ℕ → ℕ → ℕ → ℕ → Layout
+layoutWith a b c d m = record { width = 3 + a + b + c + d; first = a; second = b; third = c; fourth = d; most = m }
 
 abbrev pub noField : Field
 noField = field 0 0 0

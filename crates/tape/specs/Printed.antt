@@ -3,7 +3,7 @@ use Prim.Native.Nat.{ℕ}
 use mathlib.Core.Path.{_≡_, refl}
 use mathlib.Core.List.{List, [], _∷_}
 use Rattle.tape.specs.Bits.{bit, odd, bits, num, bitsOf, word}
-use Rattle.tape.specs.Layout.{inRange, legal, mark, numbers, fieldsOf}
+use Rattle.tape.specs.Layout.{fieldsAllowed, legal, mark, numbers, fieldsOf}
 use Rattle.tape.specs.Reading.{begins, stepAt, endAt, kindAt, readAt, given, readFrom, readSteps, firstBoxes, headOf, readTape}
 
 -- `00 07 00 04 00 00 00 01 00 40 50 04 04 8e`
@@ -17,7 +17,7 @@ printedWords =
     0x4000000000000 ∷ 0x4000000000000000 ∷ 0x4040000000000000 ∷ 0x4000000000000000 ∷ 0x4040000000000000 ∷ 0x2000000000000000 ∷ []
 
 pub printed-reads : readTape printed ≡ given printedWords
-unfolding bit odd bits num bitsOf word inRange legal mark begins stepAt endAt kindAt readAt readFrom readSteps firstBoxes headOf readTape
+unfolding bit odd bits num bitsOf word fieldsAllowed legal mark begins stepAt endAt kindAt readAt readFrom readSteps firstBoxes headOf readTape
 printed-reads = refl
 
 -- Stop of device 23, which is box 15, as a step word: kind 5, then the device

@@ -5,7 +5,7 @@ use mathlib.Core.List.{List, [], _∷_, _++_}
 use mathlib.Core.Bool.{cond}
 use lib.ListN.{length, drop}
 use lib.Dec.{leb}
-use Rattle.tape.specs.Reading.{Outcome, given, refused, readTape, firstBoxes}
+use Rattle.tape.specs.Reading.{Result, given, refused, readTape, firstBoxes}
 use Rattle.tape.specs.Writing.{writeTape}
 use Rattle.tape.specs.declared.reading.Reading.{Reading}
 use Rattle.tape.specs.declared.reading.Reading.the-variants as G
@@ -33,7 +33,7 @@ writtenAnswer (W.Bytes n) = answer 0 (n ∷ [])
 writtenAnswer (W.Refused k) = answer k []
 
 -- the number of an outcome with n places lent, after m more: 16 where they are too few
-abbrev pub numberWith : ℕ → ℕ → Outcome → ℕ
+abbrev pub numberWith : ℕ → ℕ → Result → ℕ
 numberWith n m (given xs) = cond (leb (m + length xs) n) 0 16
 numberWith n m (refused k) = k
 
@@ -44,17 +44,17 @@ numberAtEnd (G.Refused k) m n = k
 numberAtEnd G.End m n = cond (leb m n) 0 16
 
 -- the number of an outcome with places enough
-abbrev pub number : Outcome → ℕ
+abbrev pub number : Result → ℕ
 number (given xs) = 0
 number (refused k) = k
 
 -- the answer of an outcome with n places lent, its values being vs of what is given
-abbrev pub answerWith : ℕ → (List ℕ → List ℕ) → Outcome → Answer
+abbrev pub answerWith : ℕ → (List ℕ → List ℕ) → Result → Answer
 answerWith n vs (given xs) = cond (leb (length xs) n) (answer 0 (vs xs)) (answer 16 [])
 answerWith n vs (refused k) = answer k []
 
 -- what the lent places then hold: what is given and behind it what was there; with a refusal "buffers stay as given"
-abbrev pub heldBy : List ℕ → Outcome → List ℕ
+abbrev pub heldBy : List ℕ → Result → List ℕ
 heldBy lent (given xs) = cond (leb (length xs) (length lent)) (xs ++ drop (length xs) lent) lent
 heldBy lent (refused k) = lent
 

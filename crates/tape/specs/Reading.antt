@@ -35,32 +35,32 @@ readAt ed t p =
     (cond (leb (p + 3) (length t)) (kindAt ed t p (num (take 3 (drop p t)))) (Refused 13))
 
 -- what reading or writing comes to: words or bytes that it gives, or the number of a refusal
-pub data Outcome : Type 0 where
-  given : List ℕ → Outcome
-  refused : ℕ → Outcome
+pub data Result : Type 0 where
+  given : List ℕ → Result
+  refused : ℕ → Result
 
 -- what it gives
-abbrev pub wordsOf : Outcome → List ℕ
+abbrev pub wordsOf : Result → List ℕ
 wordsOf (given xs) = xs
 wordsOf (refused k) = []
 
 -- one word before the rest
-abbrev pub more : ℕ → Outcome → Outcome
+abbrev pub more : ℕ → Result → Result
 more x (given xs) = given (x ∷ xs)
 more x (refused k) = refused k
 
-abbrev pub onward : Reading → (ℕ → Outcome) → Outcome
+abbrev pub onward : Reading → (ℕ → Result) → Result
 onward (Step x q) rest = more x (rest q)
 onward (Refused k) rest = refused k
 onward End rest = given []
 
 -- the steps from bit p on, with fuel for so many readings
-unfoldable pub readFrom : ℕ → ℕ → List Bool → ℕ → Outcome
+unfoldable pub readFrom : ℕ → ℕ → List Bool → ℕ → Result
 readFrom ed zero t p = refused 13
 readFrom ed (suc fuel) t p = onward (readAt ed t p) (readFrom ed fuel t)
 
 -- the steps of the part behind the first boxes: each takes a bit or more, so this is fuel enough
-unfoldable pub readSteps : ℕ → List Bool → Outcome
+unfoldable pub readSteps : ℕ → List Bool → Result
 readSteps ed t = readFrom ed (suc (length t)) t 0
 
 -- "First the 16-bit set of first boxes"
@@ -72,5 +72,5 @@ unfoldable pub headOf : List ℕ → ℕ
 headOf s = cond (ltb 4096 (length s)) 11 (cond (ltb (length s) 3) 13 (cond (eqb (firstBoxes s) 0) 12 0))
 
 -- a whole tape; "the reader works on the part from the third byte on"
-unfoldable pub readTape : List ℕ → Outcome
+unfoldable pub readTape : List ℕ → Result
 readTape s = cond (eqb (headOf s) 0) (readSteps 1 (bitsOf (drop 2 s))) (refused (headOf s))

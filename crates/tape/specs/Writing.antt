@@ -6,7 +6,7 @@ use lib.ListN.{length, take, drop, replicate}
 use lib.Dec.{ltb, eqb}
 use Rattle.tape.specs.Bits.{num, bits}
 use Rattle.tape.specs.Layout.{mark}
-use Rattle.tape.specs.Reading.{readAt, Outcome, given, refused}
+use Rattle.tape.specs.Reading.{readAt, Result, given, refused}
 use Rattle.tape.specs.declared.reading.Reading.{Reading}
 use Rattle.tape.specs.declared.reading.Reading.the-variants.{Step, Refused, End}
 use Rattle.tape.specs.declared.writing.Measured.{Measured}
@@ -61,7 +61,7 @@ unfoldable pub tapeOf : ℕ → List ℕ → List ℕ
 tapeOf first xs = pack (2 + size 1 xs) (bits 16 first ++ stepsPart 1 xs)
 
 -- "Writing: 12; 14; 11"; 16 is the buffer's
-unfoldable pub writeTape : ℕ → List ℕ → Outcome
+unfoldable pub writeTape : ℕ → List ℕ → Result
 writeTape first xs =
     cond (eqb first 0) (refused 12)
     (cond (allSteps 1 xs) (cond (ltb 4096 (2 + size 1 xs)) (refused 11) (given (tapeOf first xs))) (refused 14))

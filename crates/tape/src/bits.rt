@@ -2,7 +2,7 @@
 ghost use mathlib.Core.Path.{_≡_};
 ghost use Prim.Native.Nat.{_+_, _*_, _/_, _%_, _^_, _≤_, _<_, min};
 ghost use lib.ListN.{length, getD, take, set};
-ghost use Rattle.tape.specs.Bits.{num, bits, bitsOf, fieldAt, word, window, Ahead, laid};
+ghost use Rattle.tape.specs.Bits.{num, bits, bitsOf, fieldAt, word, window, Ahead, overlaid};
 
 // The field of a word from its bit `from` on, the top bit being 0; 0 for a field that does not lie in the word.
 pub fn field(word: u64, from: usize, width: usize) -> u64
@@ -114,7 +114,7 @@ fn store(buf: &mut [u8], i: usize, x: u64)
 // A field of w bits into the bits from p on; it and the bits around it lie in three bytes.
 pub(crate) fn put(buf: &mut [u8], p: usize, w: usize, v: u64)
     requires { ⌜ (1 ≤ w) × (w ≤ 16) × (v < 2 ^ w) × (p + w ≤ 8 * length (now buf)) × (p ≤ 65536) ⌝ }
-    ensures { λ r. ⌜ bitsOf (now (buf .exit)) ≡ laid (bitsOf (now (buf .entry))) p (bits w v) ⌝ }
+    ensures { λ r. ⌜ bitsOf (now (buf .exit)) ≡ overlaid (bitsOf (now (buf .entry))) p (bits w v) ⌝ }
 {
     let x = blend(bytes_at(buf, p / 8, 3), w, 24 - p % 8 - w, v);
     store(buf, p / 8, x);
@@ -130,7 +130,7 @@ fn chunk(left: usize) -> usize
 // The first w bits of a word into the bits from p on.
 pub(crate) fn put_word(buf: &mut [u8], p: usize, w: usize, x: u64)
     requires { ⌜ (w ≤ 64) × (p + w ≤ 8 * length (now buf)) × (p ≤ 65000) ⌝ }
-    ensures { λ r. ⌜ bitsOf (now (buf .exit)) ≡ laid (bitsOf (now (buf .entry))) p (take w (bits 64 x)) ⌝ }
+    ensures { λ r. ⌜ bitsOf (now (buf .exit)) ≡ overlaid (bitsOf (now (buf .entry))) p (take w (bits 64 x)) ⌝ }
 {
     let mut i = 0;
     while i < w {

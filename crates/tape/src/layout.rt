@@ -3,7 +3,7 @@ ghost use mathlib.Core.Path.{_≡_};
 ghost use Prim.Native.Nat.{_+_, _≤_};
 ghost use lib.ListN.{take};
 ghost use Rattle.tape.specs.Bits.{num, bits};
-ghost use Rattle.tape.specs.Layout.{fields, stepOf, row, width, legal};
+ghost use Rattle.tape.specs.Layout.{fields, layoutWith, row, width, legal};
 ghost use Rattle.tape.specs.Writing.{wide};
 use crate::bits::field;
 use crate::bits::top;
@@ -20,9 +20,9 @@ pub(crate) struct Layout {
 }
 
 // A step of so many fields: its width is their sum with the 3 bits of the kind.
-fn step_of(first: usize, second: usize, third: usize, fourth: usize, most: u64) -> Layout
+fn layout_with(first: usize, second: usize, third: usize, fourth: usize, most: u64) -> Layout
     requires { ⌜ first + second + third + fourth ≤ 61 ⌝ }
-    ensures { λ r. ⌜ r ≡ stepOf first second third fourth most ⌝ }
+    ensures { λ r. ⌜ r ≡ layoutWith first second third fourth most ⌝ }
 {
     Layout {
         width: 3 + first + second + third + fourth,
@@ -40,15 +40,15 @@ pub(crate) fn layout_of(kind: u64) -> Layout
 {
     match kind {
         // Ask: tablet, own notes, added, removed.
-        0 => step_of(3, 8, 16, 16, 7),
+        0 => layout_with(3, 8, 16, 16, 7),
         // Advance: tablet.
-        1 => step_of(3, 0, 0, 0, 7),
+        1 => layout_with(3, 0, 0, 0, 7),
         // Deliver, Lose, Repeat: slot.
-        2 => step_of(7, 0, 0, 0, 127),
-        3 => step_of(7, 0, 0, 0, 127),
-        4 => step_of(7, 0, 0, 0, 127),
+        2 => layout_with(7, 0, 0, 0, 127),
+        3 => layout_with(7, 0, 0, 0, 127),
+        4 => layout_with(7, 0, 0, 0, 127),
         // Stop: device.
-        5 => step_of(5, 0, 0, 0, 23),
+        5 => layout_with(5, 0, 0, 0, 23),
         // No step.
         _ => Layout {
             width: 0,
@@ -62,7 +62,7 @@ pub(crate) fn layout_of(kind: u64) -> Layout
 }
 
 // The fields of a step word hold numbers that they may hold.
-pub(crate) fn in_range(kind: u64, word: u64) -> bool
+pub(crate) fn fields_allowed(kind: u64, word: u64) -> bool
     requires { ⌜ (kind ≡ num (take 3 (bits 64 word))) × (width 1 kind ≡ 0 → ⊥) ⌝ }
     ensures { λ r. ⌜ r ≡ legal 1 (take (width 1 kind) (bits 64 word)) ⌝ }
 {
@@ -83,5 +83,5 @@ pub(crate) fn step_width(word: u64) -> usize
     if top(word, w) != word {
         return 0;
     }
-    if in_range(kind, word) { w } else { 0 }
+    if fields_allowed(kind, word) { w } else { 0 }
 }

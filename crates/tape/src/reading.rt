@@ -12,7 +12,7 @@ use crate::bits::ahead;
 use crate::bits::bytes_at;
 use crate::bits::field;
 use crate::bits::top;
-use crate::layout::in_range;
+use crate::layout::fields_allowed;
 use crate::layout::layout_of;
 
 // Each reading ends as a step with the next bit position, or as a refusal, or as the end of the tape.
@@ -67,7 +67,7 @@ fn read_step(s: &[u8], p: usize) -> Reading
         return Reading::Refused(13);
     }
     let word = top(x, w);
-    if in_range(kind, word) {
+    if fields_allowed(kind, word) {
         Reading::Step(word, p + w)
     } else {
         Reading::Refused(14)

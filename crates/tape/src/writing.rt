@@ -3,7 +3,7 @@ ghost use mathlib.Core.Path.{_≡_};
 ghost use Prim.Native.Nat.{_+_, _*_, _≤_, min};
 ghost use mathlib.Core.List.{_++_};
 ghost use lib.ListN.{length};
-ghost use Rattle.tape.specs.Bits.{bits, bitsOf, laid};
+ghost use Rattle.tape.specs.Bits.{bits, bitsOf, overlaid};
 ghost use Rattle.tape.specs.Writing.{measured, body, stepsPart, size};
 use crate::bits::put;
 use crate::bits::put_word;
@@ -42,7 +42,7 @@ pub(crate) fn measure(words: &[u64]) -> Measured
 // The steps and the end mark into the front of a buffer.
 fn pack_steps(buf: &mut [u8], words: &[u64])
     requires { ⌜ (length (body 1 (now words)) ≤ 40000) × (length (stepsPart 1 (now words)) ≤ 8 * length (now buf)) ⌝ }
-    ensures { λ r. ⌜ bitsOf (now (buf .exit)) ≡ laid (bitsOf (now (buf .entry))) 0 (stepsPart 1 (now (words .entry))) ⌝ }
+    ensures { λ r. ⌜ bitsOf (now (buf .exit)) ≡ overlaid (bitsOf (now (buf .entry))) 0 (stepsPart 1 (now (words .entry))) ⌝ }
 {
     let mut p = 0;
     let mut i = 0;
@@ -60,7 +60,7 @@ fn pack_steps(buf: &mut [u8], words: &[u64])
 // The first boxes, and the steps into the part behind these two bytes.
 pub(crate) fn lay_tape(buf: &mut [u8], first: u16, words: &[u64])
     requires { ⌜ (length (body 1 (now words)) ≤ 40000) × (2 + size 1 (now words) ≤ length (now buf)) ⌝ }
-    ensures { λ r. ⌜ bitsOf (now (buf .exit)) ≡ laid (bitsOf (now (buf .entry))) 0 (bits 16 first ++ stepsPart 1 (now (words .entry))) ⌝ }
+    ensures { λ r. ⌜ bitsOf (now (buf .exit)) ≡ overlaid (bitsOf (now (buf .entry))) 0 (bits 16 first ++ stepsPart 1 (now (words .entry))) ⌝ }
 {
     put(buf, 0, 16, first as u64);
     pack_steps(&mut buf[2..], words);

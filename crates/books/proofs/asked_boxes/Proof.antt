@@ -3,8 +3,8 @@ use mathlib.Core.Path.{_≡_, _∙_}
 use mathlib.Core.Logic.{⊎-elim}
 use native.Mathlib.Omega.{arith}
 use borrow.Author.Tests.{eq-eqb, ne-eqb}
-use Rattle.sets.specs.Below.{unions}
-use Rattle.sets.proofs.BelowLaws.{unions-zero, unions-on}
+use Rattle.sets.specs.Bounded.{unions}
+use Rattle.sets.proofs.BoundedLaws.{unions-zero, unions-on}
 use Rattle.books.proofs.Turns.{queriedBoxes, boxes-in, boxes-out, boxes-end}
 use Rattle.books.proofs.asked_boxes.Statement.{statement}
 use Rattle.books.proofs.asked_boxes.Tie as tie

@@ -3,8 +3,8 @@ use mathlib.Core.Path.{_≡_, _∙_}
 use mathlib.Core.Logic.{⊎-elim}
 use native.Mathlib.Omega.{arith}
 use borrow.Author.Tests.{eq-eqb, ne-eqb}
-use Rattle.sets.specs.Below.{each}
-use Rattle.sets.proofs.BelowLaws.{each-zero, each-on}
+use Rattle.sets.specs.Bounded.{each}
+use Rattle.sets.proofs.BoundedLaws.{each-zero, each-on}
 use Rattle.books.proofs.Turns.{queriedMajority, majority-in, majority-out, majority-end}
 use Rattle.books.proofs.every_majority.Statement.{statement}
 use Rattle.books.proofs.every_majority.Tie as tie

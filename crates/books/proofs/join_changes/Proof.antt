@@ -7,8 +7,8 @@ use lib.ListN.{getD}
 use borrow.Author.Tests.{eq-eqb, ne-eqb}
 use Rattle.sets.specs.Choice.{pick}
 use Rattle.sets.specs.Sets.{has}
-use Rattle.sets.specs.Below.{times}
-use Rattle.sets.proofs.BelowLaws.{pick-true, pick-false, times-zero, times-on}
+use Rattle.sets.specs.Bounded.{times}
+use Rattle.sets.proofs.BoundedLaws.{pick-true, pick-false, times-zero, times-on}
 use Rattle.books.specs.declared.Config.{Config}
 use Rattle.books.specs.Books.{noConfig, joinConfigs}
 use Rattle.books.specs.Queried.{joinedWith}

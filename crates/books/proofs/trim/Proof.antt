@@ -5,8 +5,8 @@ use mathlib.Core.Path.{_≡_, sym, _∙_}
 use mathlib.Core.Logic.{⊎-elim}
 use native.Mathlib.Omega.{arith}
 use lib.ListN.{getD}
-use Rattle.sets.specs.Below.{those}
-use Rattle.sets.proofs.BelowLaws.{those-zero, those-out}
+use Rattle.sets.specs.Bounded.{those}
+use Rattle.sets.proofs.BoundedLaws.{those-zero, those-out}
 use Rattle.books.specs.declared.Config.{Config}
 use Rattle.books.specs.Books.{noConfig}
 use Rattle.books.specs.Queried.{stays, outside}

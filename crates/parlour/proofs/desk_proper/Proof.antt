@@ -1,6 +1,6 @@
 use mathlib.Core.Path.{_∙_}
 use borrow.Author.Needs.{needs}
-use Rattle.sets.proofs.BelowLaws.{pick-false}
+use Rattle.sets.proofs.BoundedLaws.{pick-false}
 use Rattle.parlour.proofs.desk_proper.Statement.{statement}
 use Rattle.parlour.proofs.desk_proper.Tie as tie
 

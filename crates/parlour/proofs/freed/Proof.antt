@@ -1,4 +1,4 @@
-use Rattle.sets.proofs.BelowLaws.{pick-true, pick-false}
+use Rattle.sets.proofs.BoundedLaws.{pick-true, pick-false}
 use Rattle.parlour.proofs.freed.Statement.{statement}
 use Rattle.parlour.proofs.freed.Tie as tie
 

@@ -1,7 +1,7 @@
 use mathlib.Core.Path.{_∙_}
 use borrow.Author.Needs.{needs}
 use Rattle.parlour.proofs.Places.{stopped-one}
-use Rattle.sets.proofs.BelowLaws.{pick-true}
+use Rattle.sets.proofs.BoundedLaws.{pick-true}
 use Rattle.parlour.proofs.stopped_after.Statement.{statement}
 use Rattle.parlour.proofs.stopped_after.Tie as tie
 

@@ -2,8 +2,8 @@ use Prim.Native.Nat.{_≤_, _-_}
 use mathlib.Core.Path.{_≡_, ap}
 use native.Mathlib.Omega.{arith}
 use Rattle.sets.specs.Choice.{both}
-use Rattle.sets.specs.Below.{each}
-use Rattle.sets.proofs.BelowLaws.{each-zero, each-on}
+use Rattle.sets.specs.Bounded.{each}
+use Rattle.sets.proofs.BoundedLaws.{each-zero, each-on}
 use Rattle.state.specs.State.{allDifferent}
 use Rattle.state.proofs.StateLaws.{isNew}
 use Rattle.state.proofs.all_differ.Statement.{statement}

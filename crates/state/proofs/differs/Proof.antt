@@ -4,8 +4,8 @@ use mathlib.Core.Path.{_≡_, ap}
 use native.Mathlib.Omega.{arith}
 use lib.ListN.{getD}
 use Rattle.sets.specs.Choice.{both}
-use Rattle.sets.specs.Below.{each}
-use Rattle.sets.proofs.BelowLaws.{each-zero, each-on}
+use Rattle.sets.specs.Bounded.{each}
+use Rattle.sets.proofs.BoundedLaws.{each-zero, each-on}
 use Rattle.books.specs.Books.{noConfig, sameConfig}
 use Rattle.state.proofs.differs.Statement.{statement}
 use Rattle.state.proofs.differs.Tie as tie

@@ -5,7 +5,7 @@ use borrow.Author.Needs.{needs}
 use lib.ListN.{getD, length, drop}
 use lib.Dec.{leb}
 use Rattle.sets.specs.Choice.{both}
-use Rattle.sets.proofs.BelowLaws.{both-assoc}
+use Rattle.sets.proofs.BoundedLaws.{both-assoc}
 use Rattle.books.proofs.Turns.{length-mapped}
 use Rattle.devices.specs.Contents.{freshTablet}
 use Rattle.state.specs.Slots.{all}

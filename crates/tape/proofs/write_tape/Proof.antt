@@ -8,7 +8,7 @@ use mathlib.Core.List.{List, [], _∷_, _++_}
 use mathlib.Core.Bool.{true}
 use denote.Ref.{now}
 use lib.ListN.{length, drop}
-use Rattle.tape.specs.Bits.{bits, bitsOf, laid}
+use Rattle.tape.specs.Bits.{bits, bitsOf, overlaid}
 use Rattle.tape.specs.Reading.{given, refused}
 use Rattle.tape.specs.Writing.{allSteps, body, stepsPart, size, tapeOf, writeTape}
 use Rattle.tape.specs.Promises.{answer, WritePromise}
@@ -36,7 +36,7 @@ short first xs s e h =
     record { told = p .told; buf-is = p .held }
 
 full : (first : ℕ) (xs s e : List ℕ) (n : ℕ) → writeTape first xs ≡ given (tapeOf first xs) → n ≡ 2 + size 1 xs → 2 + size 1 xs ≤ length s → Bytes s → Bytes e → length e ≡ length s
-    → bitsOf e ≡ laid (bitsOf s) 0 (bits 16 first ++ stepsPart 1 xs) → WritePromise first xs s (Wrote n) e
+    → bitsOf e ≡ overlaid (bitsOf s) 0 (bits 16 first ++ stepsPart 1 xs) → WritePromise first xs s (Wrote n) e
 unfolding tapeOf
 full first xs s e n w m h p q k f =
     let l = length-tapeOf first xs in

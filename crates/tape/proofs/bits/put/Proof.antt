@@ -6,10 +6,10 @@ use Prim.Native.Nat.{ℕ, _+_, _-_, _*_, _/_, _%_, _^_, _≤_, _<_}
 use mathlib.Core.List.{List}
 use denote.Ref.{now}
 use lib.ListN.{length}
-use Rattle.tape.specs.Bits.{num, bits, bitsOf, window, laid}
+use Rattle.tape.specs.Bits.{num, bits, bitsOf, window, overlaid}
 use Rattle.tape.proofs.BitLaws.{length-bits, num-lt, num-bits-small}
 use Rattle.tape.proofs.ByteLaws.{length-window, num-window-lt}
-use Rattle.tape.proofs.LayLaws.{length-laid, num-laid, stored, stored-laid}
+use Rattle.tape.proofs.LayLaws.{length-overlaid, num-overlaid, stored, stored-overlaid}
 use Rattle.tape.proofs.bits.put.Statement.{statement}
 use Rattle.tape.proofs.bits.put.Tie as tie
 
@@ -19,20 +19,20 @@ within s p w v h = rw (length-bits, length-window) (omega arith)
 -- what the three bytes become
 filled : (s : List ℕ) (p w v old x : ℕ) → w ≤ 16 → v < 2 ^ w → old ≡ num (window 3 s (p / 8))
     → x ≡ (old / 2 ^ (w + (24 - p % 8 - w)) * 2 ^ w + v) * 2 ^ (24 - p % 8 - w) + old % 2 ^ (24 - p % 8 - w)
-    → x ≡ num (laid (window 3 s (p / 8)) (p % 8) (bits w v))
+    → x ≡ num (overlaid (window 3 s (p / 8)) (p % 8) (bits w v))
 filled s p w v old x h hv e k =
     k ∙ ap₂ (λ (a b : ℕ). (a / 2 ^ (w + (24 - p % 8 - w)) * 2 ^ w + b) * 2 ^ (24 - p % 8 - w) + a % 2 ^ (24 - p % 8 - w)) e (sym (num-bits-small w v hv))
-    ∙ sym (num-laid (window 3 s (p / 8)) (p % 8) (bits w v) (within s p w v h) w (24 - p % 8 - w) (length-bits w v) (rw length-window (omega arith)))
+    ∙ sym (num-overlaid (window 3 s (p / 8)) (p % 8) (bits w v) (within s p w v h) w (24 - p % 8 - w) (length-bits w v) (rw length-window (omega arith)))
 
-num-24 : (s : List ℕ) (p w v : ℕ) → w ≤ 16 → num (laid (window 3 s (p / 8)) (p % 8) (bits w v)) < 2 ^ 24
+num-24 : (s : List ℕ) (p w v : ℕ) → w ≤ 16 → num (overlaid (window 3 s (p / 8)) (p % 8) (bits w v)) < 2 ^ 24
 num-24 s p w v h =
-    subst (λ (k : ℕ). num (laid (window 3 s (p / 8)) (p % 8) (bits w v)) < 2 ^ k) (length-laid (window 3 s (p / 8)) (p % 8) (bits w v) (within s p w v h) ∙ length-window 3 s (p / 8))
-    (num-lt (laid (window 3 s (p / 8)) (p % 8) (bits w v)))
+    subst (λ (k : ℕ). num (overlaid (window 3 s (p / 8)) (p % 8) (bits w v)) < 2 ^ k) (length-overlaid (window 3 s (p / 8)) (p % 8) (bits w v) (within s p w v h) ∙ length-window 3 s (p / 8))
+    (num-lt (overlaid (window 3 s (p / 8)) (p % 8) (bits w v)))
 
 -- what the buffer becomes
-put-is : (s after : List ℕ) (p w v x : ℕ) → 1 ≤ w → w ≤ 16 → p + w ≤ 8 * length s → x ≡ num (laid (window 3 s (p / 8)) (p % 8) (bits w v)) → after ≡ stored s (p / 8) x
-    → bitsOf after ≡ laid (bitsOf s) p (bits w v)
-put-is s after p w v x l h k e f = ap bitsOf f ∙ stored-laid s p (bits w v) x (rw length-bits (omega arith)) (rw length-bits l) (rw length-bits k) e
+put-is : (s after : List ℕ) (p w v x : ℕ) → 1 ≤ w → w ≤ 16 → p + w ≤ 8 * length s → x ≡ num (overlaid (window 3 s (p / 8)) (p % 8) (bits w v)) → after ≡ stored s (p / 8) x
+    → bitsOf after ≡ overlaid (bitsOf s) p (bits w v)
+put-is s after p w v x l h k e f = ap bitsOf f ∙ stored-overlaid s p (bits w v) x (rw length-bits (omega arith)) (rw length-bits l) (rw length-bits k) e
 
 bytes-at-requires : tie.Need-bytes-at-requires
 bytes-at-requires c κs = search needs

@@ -7,30 +7,30 @@ use mathlib.Core.List.{List}
 use denote.Ref.{now}
 use lib.ListN.{length, take, drop, length-drop}
 use lib.Seq.{length-take-le, take-add}
-use Rattle.tape.specs.Bits.{num, bits, bitsOf, laid}
+use Rattle.tape.specs.Bits.{num, bits, bitsOf, overlaid}
 use Rattle.tape.proofs.BitLaws.{length-bits, bits-part}
 use Rattle.tape.proofs.ByteLaws.{length-bitsOf}
 use Rattle.tape.proofs.WordLaws.{field-inside, field-lt}
-use Rattle.tape.proofs.LayLaws.{laid-nil, laid-laid}
+use Rattle.tape.proofs.LayLaws.{overlaid-nil, overlaid-overlaid}
 use Rattle.tape.proofs.bits.put_word.Statement.{statement}
 use Rattle.tape.proofs.bits.put_word.Tie as tie
 
-further : (s : List ℕ) (p w x : ℕ) (b : List ℕ) (i k c : ℕ) → w ≤ 64 → i + k ≤ w → p + w ≤ 8 * length s → bitsOf b ≡ laid (bitsOf s) p (take i (bits 64 x)) → c ≡ num (take k (drop i (bits 64 x)))
-    → laid (bitsOf b) (p + i) (bits k c) ≡ laid (bitsOf s) p (take (i + k) (bits 64 x))
+further : (s : List ℕ) (p w x : ℕ) (b : List ℕ) (i k c : ℕ) → w ≤ 64 → i + k ≤ w → p + w ≤ 8 * length s → bitsOf b ≡ overlaid (bitsOf s) p (take i (bits 64 x)) → c ≡ num (take k (drop i (bits 64 x)))
+    → overlaid (bitsOf b) (p + i) (bits k c) ≡ overlaid (bitsOf s) p (take (i + k) (bits 64 x))
 further s p w x b i k c hw h hp e f =
-    ap₂ (λ l g. laid l (p + i) g) e (ap (bits k) f ∙ bits-part k (take k (drop i (bits 64 x))) (length-take-le k (drop i (bits 64 x)) (simp (length-drop, length-bits) (omega arith))))
-    ∙ ap (λ n. laid (laid (bitsOf s) p (take i (bits 64 x))) (p + n) (take k (drop i (bits 64 x)))) (sym (length-take-le i (bits 64 x) (rw length-bits (omega arith))))
-    ∙ laid-laid (bitsOf s) p (take i (bits 64 x)) (take k (drop i (bits 64 x))) (rw length-bitsOf (omega arith))
-    ∙ ap (laid (bitsOf s) p) (sym (take-add i k (bits 64 x)))
+    ap₂ (λ l g. overlaid l (p + i) g) e (ap (bits k) f ∙ bits-part k (take k (drop i (bits 64 x))) (length-take-le k (drop i (bits 64 x)) (simp (length-drop, length-bits) (omega arith))))
+    ∙ ap (λ n. overlaid (overlaid (bitsOf s) p (take i (bits 64 x))) (p + n) (take k (drop i (bits 64 x)))) (sym (length-take-le i (bits 64 x) (rw length-bits (omega arith))))
+    ∙ overlaid-overlaid (bitsOf s) p (take i (bits 64 x)) (take k (drop i (bits 64 x))) (rw length-bitsOf (omega arith))
+    ∙ ap (overlaid (bitsOf s) p) (sym (take-add i k (bits 64 x)))
 
 abbrev Inv-loop : tie.InvT-loop
-Inv-loop buf₀ p w x i₀ buf i = (i ≤ w) × (length buf ≡ length buf₀) × (bitsOf buf ≡ laid (bitsOf buf₀) p (take i (bits 64 x)))
+Inv-loop buf₀ p w x i₀ buf i = (i ≤ w) × (length buf ≡ length buf₀) × (bitsOf buf ≡ overlaid (bitsOf buf₀) p (take i (bits 64 x)))
 
 abbrev μ-loop : tie.MeasureT-loop
 μ-loop buf₀ p w x i₀ buf i = w - i
 
 loop-holds : tie.Need-loop-holds Inv-loop μ-loop
-loop-holds c = (search needs, refl, sym (laid-nil (bitsOf (now (c .before .args .buf))) (c .before .args .p)))
+loop-holds c = (search needs, refl, sym (overlaid-nil (bitsOf (now (c .before .args .buf))) (c .before .args .p)))
 
 sub-chunk : tie.Need-sub-chunk Inv-loop μ-loop
 sub-chunk c = search needs
@@ -72,7 +72,7 @@ returns : tie.Need-returns Inv-loop μ-loop
 returns c =
     let a = c .before .before .before .args in
     let e : c .before .loop .i ≡ a .w = omega arith in
-    c .before .loop .inv .2 ∙ ap (λ k. laid (bitsOf (now (a .buf))) (a .p) (take k (bits 64 (a .x)))) e
+    c .before .loop .inv .2 ∙ ap (λ k. overlaid (bitsOf (now (a .buf))) (a .p) (take k (bits 64 (a .x)))) e
 
 pub put-word-spec : {M : Type 1} → statement M
 put-word-spec =

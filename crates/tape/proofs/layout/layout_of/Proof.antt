@@ -12,41 +12,41 @@ use Rattle.tape.proofs.layout.layout_of.Tie as tie
 none : (k : ℕ) → 6 ≤ k → row [] ≡ row (fields 1 k)
 none k h = ap row (sym (List·getD-eq-default (rows 1) [] h))
 
-step-of-requires : tie.Need-step-of-requires
-step-of-requires c κs = search needs
+layout-with-requires : tie.Need-layout-with-requires
+layout-with-requires c κs = search needs
 
 returns : tie.Need-returns
-returns c = c .step-of .ensures ∙ sym (ap (λ k. row (fields 1 k)) (c .before .match .keys1))
+returns c = c .layout-with .ensures ∙ sym (ap (λ k. row (fields 1 k)) (c .before .match .keys1))
 
-step-of-requires-2 : tie.Need-step-of-requires-2
-step-of-requires-2 c κs = search needs
+layout-with-requires-2 : tie.Need-layout-with-requires-2
+layout-with-requires-2 c κs = search needs
 
 returns-2 : tie.Need-returns-2
-returns-2 c = c .step-of2 .ensures ∙ sym (ap (λ k. row (fields 1 k)) (c .before .match .keys2))
+returns-2 c = c .layout-with2 .ensures ∙ sym (ap (λ k. row (fields 1 k)) (c .before .match .keys2))
 
-step-of-requires-3 : tie.Need-step-of-requires-3
-step-of-requires-3 c κs = search needs
+layout-with-requires-3 : tie.Need-layout-with-requires-3
+layout-with-requires-3 c κs = search needs
 
 returns-3 : tie.Need-returns-3
-returns-3 c = c .step-of3 .ensures ∙ sym (ap (λ k. row (fields 1 k)) (c .before .match .keys3))
+returns-3 c = c .layout-with3 .ensures ∙ sym (ap (λ k. row (fields 1 k)) (c .before .match .keys3))
 
-step-of-requires-4 : tie.Need-step-of-requires-4
-step-of-requires-4 c κs = search needs
+layout-with-requires-4 : tie.Need-layout-with-requires-4
+layout-with-requires-4 c κs = search needs
 
 returns-4 : tie.Need-returns-4
-returns-4 c = c .step-of4 .ensures ∙ sym (ap (λ k. row (fields 1 k)) (c .before .match .keys4))
+returns-4 c = c .layout-with4 .ensures ∙ sym (ap (λ k. row (fields 1 k)) (c .before .match .keys4))
 
-step-of-requires-5 : tie.Need-step-of-requires-5
-step-of-requires-5 c κs = search needs
+layout-with-requires-5 : tie.Need-layout-with-requires-5
+layout-with-requires-5 c κs = search needs
 
 returns-5 : tie.Need-returns-5
-returns-5 c = c .step-of5 .ensures ∙ sym (ap (λ k. row (fields 1 k)) (c .before .match .keys5))
+returns-5 c = c .layout-with5 .ensures ∙ sym (ap (λ k. row (fields 1 k)) (c .before .match .keys5))
 
-step-of-requires-6 : tie.Need-step-of-requires-6
-step-of-requires-6 c κs = search needs
+layout-with-requires-6 : tie.Need-layout-with-requires-6
+layout-with-requires-6 c κs = search needs
 
 returns-6 : tie.Need-returns-6
-returns-6 c = c .step-of6 .ensures ∙ sym (ap (λ k. row (fields 1 k)) (c .before .match .keys6))
+returns-6 c = c .layout-with6 .ensures ∙ sym (ap (λ k. row (fields 1 k)) (c .before .match .keys6))
 
 returns-7 : tie.Need-returns-7
 returns-7 c =
@@ -57,12 +57,12 @@ pub layout-of-spec : {M : Type 1} → statement M
 layout-of-spec =
     tie.close
     (tie.spec
-    step-of-requires
-    step-of-requires-2
-    step-of-requires-3
-    step-of-requires-4
-    step-of-requires-5
-    step-of-requires-6
+    layout-with-requires
+    layout-with-requires-2
+    layout-with-requires-3
+    layout-with-requires-4
+    layout-with-requires-5
+    layout-with-requires-6
     returns
     returns-2
     returns-3

@@ -58,17 +58,17 @@ returns-2 c =
     let e = c .before .before in
     sym (wide-low 1 (e .before .before .before .args .word) (unmarked e) (some e) (λ h. c .if2 .taken (tops (c .before) ∙ h)))
 
-in-range-requires : tie.Need-in-range-requires
-in-range-requires c κs =
+fields-allowed-requires : tie.Need-fields-allowed-requires
+fields-allowed-requires c κs =
     let e = c .before .before in
     let k = found (e .before) .kind in
     (k, λ h. some e (ap (width 1) (sym k) ∙ h))
 
-judged : (c : tie.After-in-range) → legal 1 (take (width 1 (num (take 3 (bits 64 (c .before .before .before .before .before .before .args .word))))) (bits 64 (c .before .before .before .before .before .before .args .word))) ≡ c .in-range .result
+judged : (c : tie.After-fields-allowed) → legal 1 (take (width 1 (num (take 3 (bits 64 (c .before .before .before .before .before .before .args .word))))) (bits 64 (c .before .before .before .before .before .before .args .word))) ≡ c .fields-allowed .result
 judged c =
     let e = c .before .before .before in
     let x = e .before .before .before .args .word in
-    sym (c .in-range .ensures ∙ ap (λ k. legal 1 (take (width 1 k) (bits 64 x))) (found (e .before) .kind))
+    sym (c .fields-allowed .ensures ∙ ap (λ k. legal 1 (take (width 1 k) (bits 64 x))) (found (e .before) .kind))
 
 returns-3 : tie.Need-returns-3
 returns-3 c =
@@ -90,6 +90,6 @@ step-width-spec =
     returns
     top-requires
     returns-2
-    in-range-requires
+    fields-allowed-requires
     returns-3
     returns-4)

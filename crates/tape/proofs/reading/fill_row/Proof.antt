@@ -9,7 +9,7 @@ use native.Mathlib.Nat.{sub-zero}
 use lib.ListN.{length, take, drop, set, length-drop}
 use lib.Seq.{take-all, length-take-le}
 use Rattle.tape.specs.Bits.{bitsOf}
-use Rattle.tape.specs.Reading.{readAt, Outcome, given, wordsOf, onward, readFrom, readSteps}
+use Rattle.tape.specs.Reading.{readAt, Result, given, wordsOf, onward, readFrom, readSteps}
 use Rattle.tape.specs.declared.reading.Reading.the-variants.{Step}
 use Rattle.tape.proofs.ByteLaws.{length-bitsOf}
 use Rattle.tape.proofs.ReadingLaws.{Moves, moves, read-from, more-is, none-left}
@@ -38,7 +38,7 @@ Inv-loop s row₀ p₀ n₀ row p n = Filled s row₀ row p n
 abbrev μ-loop : tie.MeasureT-loop
 μ-loop s row₀ p₀ n₀ row p n = 8 * length s - p
 
-abbrev rest : List ℕ → ℕ → ℕ → Outcome
+abbrev rest : List ℕ → ℕ → ℕ → Result
 rest s n = readFrom 1 (suc (length (bitsOf s)) - (n + 1)) (bitsOf s)
 
 unrolled : (s row₀ row : List ℕ) (p n : ℕ) → Filled s row₀ row p n → readFrom 1 (suc (length (bitsOf s)) - n) (bitsOf s) p ≡ onward (readAt 1 (bitsOf s) p) (rest s n)

@@ -67,10 +67,10 @@ words c =
     let a = g .before .before .before .before .args in
     word-at (now (a .s)) (a .p) (e .before .layout-of .result .width) (g .before .ahead .result) (c .top .result) (most e) (search needs) (g .before .ahead .ensures) (c .top .ensures)
 
-judged : (c : tie.After-in-range) → legal 1 (take (c .before .before .before .before .layout-of .result .width) (drop (c .before .before .before .before .before .before .before .before .before .args .p) (bitsOf (now (c .before .before .before .before .before .before .before .before .before .args .s))))) ≡ c .in-range .result
+judged : (c : tie.After-fields-allowed) → legal 1 (take (c .before .before .before .before .layout-of .result .width) (drop (c .before .before .before .before .before .before .before .before .before .args .p) (bitsOf (now (c .before .before .before .before .before .before .before .before .before .args .s))))) ≡ c .fields-allowed .result
 judged c =
     let l = c .before .before .before .before in
-    sym (c .in-range .ensures ∙ ap (λ w. legal 1 (take w (bits 64 (c .before .top .result)))) (sym (wide l)) ∙ ap (legal 1) (words (c .before) .top))
+    sym (c .fields-allowed .ensures ∙ ap (λ w. legal 1 (take w (bits 64 (c .before .top .result)))) (sym (wide l)) ∙ ap (legal 1) (words (c .before) .top))
 
 mul-left : tie.Need-mul-left
 mul-left c = search needs
@@ -113,8 +113,8 @@ returns-3 c =
 top-requires : tie.Need-top-requires
 top-requires c κs = (omega (arith, least (c .before)), omega (arith, most (c .before)))
 
-in-range-requires : tie.Need-in-range-requires
-in-range-requires c κs =
+fields-allowed-requires : tie.Need-fields-allowed-requires
+fields-allowed-requires c κs =
     let e = c .before .before in
     let g = e .before .before in
     let a = g .before .before .before .before .args in
@@ -152,7 +152,7 @@ read-step-spec =
     returns-2
     returns-3
     top-requires
-    in-range-requires
+    fields-allowed-requires
     add-t14
     returns-4
     returns-5)

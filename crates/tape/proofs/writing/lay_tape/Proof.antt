@@ -5,10 +5,10 @@ use mathlib.Core.Path.{sym, ap₂, _∙_}
 use Prim.Native.Nat.{_+_, _-_}
 use denote.Ref.{now}
 use lib.ListN.{length-drop}
-use Rattle.tape.specs.Bits.{bits, bitsOf, laid}
+use Rattle.tape.specs.Bits.{bits, bitsOf, overlaid}
 use Rattle.tape.specs.Writing.{stepsPart}
 use Rattle.tape.proofs.BitLaws.{length-bits}
-use Rattle.tape.proofs.LayLaws.{laid-laid, part-from, lay-part}
+use Rattle.tape.proofs.LayLaws.{overlaid-overlaid, part-from, lay-part}
 use Rattle.tape.proofs.WritingLaws.{size-bits}
 use Rattle.tape.proofs.writing.lay_tape.Statement.{statement}
 use Rattle.tape.proofs.writing.lay_tape.Tie as tie
@@ -47,8 +47,8 @@ returns c =
     let s = now (b .args .buf) in
     let f = b .args .first in
     lay-part (p .last .0) (c .before .before .pack-steps .last .0) (stepsPart 1 (now (b .args .words))) (omega (arith, p .kept .0, size-bits 1 (now (b .args .words)), b .pre .1)) (c .before .before .pack-steps .ensures)
-    ∙ ap₂ (λ l k. laid l (0 + k) (stepsPart 1 (now (b .args .words)))) (p .ensures) (sym (length-bits 16 f))
-    ∙ laid-laid (bitsOf s) 0 (bits 16 f) (stepsPart 1 (now (b .args .words))) (omega arith)
+    ∙ ap₂ (λ l k. overlaid l (0 + k) (stepsPart 1 (now (b .args .words)))) (p .ensures) (sym (length-bits 16 f))
+    ∙ overlaid-overlaid (bitsOf s) 0 (bits 16 f) (stepsPart 1 (now (b .args .words))) (omega arith)
 
 pub lay-tape-spec : {M : Type 1} → statement M
 lay-tape-spec =

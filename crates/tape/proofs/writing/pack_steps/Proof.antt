@@ -10,10 +10,10 @@ use native.Mathlib.Nat.{zero-add}
 use lib.Pow.{shl-exact, shl-lt}
 use lib.ListN.{length, take, getD, replicate}
 use lib.Seq.{take-all}
-use Rattle.tape.specs.Bits.{bits, bitsOf, laid}
+use Rattle.tape.specs.Bits.{bits, bitsOf, overlaid}
 use Rattle.tape.specs.Layout.{mark}
 use Rattle.tape.specs.Writing.{wide, stepBits, body, pad, stepsPart}
-use Rattle.tape.proofs.LayLaws.{laid-nil, laid-laid}
+use Rattle.tape.proofs.LayLaws.{overlaid-nil, overlaid-overlaid}
 use Rattle.tape.proofs.StepLaws.{wide-most}
 use Rattle.tape.proofs.WritingLaws.{body-next, length-next, length-part, length-stepsPart, end-field}
 use Rattle.tape.proofs.writing.pack_steps.Statement.{statement}
@@ -35,37 +35,37 @@ total xs i p n h e k =
 marked : (z : ℕ) → z < 8 → 7 * 2 ^ z % 2 ^ 64 < 2 ^ (3 + z)
 marked z h = rw (shl-exact {a = 7} 3 z 64 (omega arith) (omega arith)) (shl-lt {a = 7} 3 z (omega arith))
 
-further : (xs s b : List ℕ) (i p w : ℕ) → i < length xs → p ≡ length (body 1 (take i xs)) → bitsOf b ≡ laid (bitsOf s) 0 (body 1 (take i xs)) → w ≡ wide 1 (getD xs i 0)
-    → laid (bitsOf b) p (take w (bits 64 (getD xs i 0))) ≡ laid (bitsOf s) 0 (body 1 (take (i + 1) xs))
+further : (xs s b : List ℕ) (i p w : ℕ) → i < length xs → p ≡ length (body 1 (take i xs)) → bitsOf b ≡ overlaid (bitsOf s) 0 (body 1 (take i xs)) → w ≡ wide 1 (getD xs i 0)
+    → overlaid (bitsOf b) p (take w (bits 64 (getD xs i 0))) ≡ overlaid (bitsOf s) 0 (body 1 (take (i + 1) xs))
 unfolding stepBits
 further xs s b i p w h e f g =
-    ap₂ (λ l k. laid l p (take k (bits 64 (getD xs i 0)))) f g
-    ∙ ap (λ k. laid (laid (bitsOf s) 0 (body 1 (take i xs))) k (stepBits 1 (getD xs i 0))) (e ∙ sym (zero-add (length (body 1 (take i xs)))))
-    ∙ laid-laid (bitsOf s) 0 (body 1 (take i xs)) (stepBits 1 (getD xs i 0)) (omega arith)
-    ∙ ap (laid (bitsOf s) 0) (sym (body-next 1 xs i h))
+    ap₂ (λ l k. overlaid l p (take k (bits 64 (getD xs i 0)))) f g
+    ∙ ap (λ k. overlaid (overlaid (bitsOf s) 0 (body 1 (take i xs))) k (stepBits 1 (getD xs i 0))) (e ∙ sym (zero-add (length (body 1 (take i xs)))))
+    ∙ overlaid-overlaid (bitsOf s) 0 (body 1 (take i xs)) (stepBits 1 (getD xs i 0)) (omega arith)
+    ∙ ap (overlaid (bitsOf s) 0) (sym (body-next 1 xs i h))
 
-ended : (xs s b : List ℕ) (i p : ℕ) → length xs ≤ i → p ≡ length (body 1 (take i xs)) → bitsOf b ≡ laid (bitsOf s) 0 (body 1 (take i xs))
-    → laid (bitsOf b) p (bits (3 + (8 - (p + 3) % 8) % 8) (7 * 2 ^ ((8 - (p + 3) % 8) % 8) % 2 ^ 64)) ≡ laid (bitsOf s) 0 (stepsPart 1 xs)
+ended : (xs s b : List ℕ) (i p : ℕ) → length xs ≤ i → p ≡ length (body 1 (take i xs)) → bitsOf b ≡ overlaid (bitsOf s) 0 (body 1 (take i xs))
+    → overlaid (bitsOf b) p (bits (3 + (8 - (p + 3) % 8) % 8) (7 * 2 ^ ((8 - (p + 3) % 8) % 8) % 2 ^ 64)) ≡ overlaid (bitsOf s) 0 (stepsPart 1 xs)
 unfolding stepsPart pad mark
 ended xs s b i p h e f =
     let g : take i xs ≡ xs = take-all i xs h in
     let n : p ≡ length (body 1 xs) = e ∙ ap (λ z. length (body 1 z)) g in
     let z = (8 - (p + 3) % 8) % 8 in
-    ap₂ (λ l k. laid l p (bits (3 + z) k)) (f ∙ ap (λ y. laid (bitsOf s) 0 (body 1 y)) g) (shl-exact {a = 7} 3 z 64 (omega arith) (omega arith))
-    ∙ ap (laid (laid (bitsOf s) 0 (body 1 xs)) p) (end-field z)
-    ∙ ap (λ k. laid (laid (bitsOf s) 0 (body 1 xs)) k (mark 1 ++ replicate ((8 - (k + 3) % 8) % 8) false)) n
-    ∙ ap (λ k. laid (laid (bitsOf s) 0 (body 1 xs)) k (mark 1 ++ replicate ((8 - (length (body 1 xs) + 3) % 8) % 8) false)) (sym (zero-add (length (body 1 xs))))
-    ∙ laid-laid (bitsOf s) 0 (body 1 xs) (mark 1 ++ replicate ((8 - (length (body 1 xs) + 3) % 8) % 8) false) (omega arith)
+    ap₂ (λ l k. overlaid l p (bits (3 + z) k)) (f ∙ ap (λ y. overlaid (bitsOf s) 0 (body 1 y)) g) (shl-exact {a = 7} 3 z 64 (omega arith) (omega arith))
+    ∙ ap (overlaid (overlaid (bitsOf s) 0 (body 1 xs)) p) (end-field z)
+    ∙ ap (λ k. overlaid (overlaid (bitsOf s) 0 (body 1 xs)) k (mark 1 ++ replicate ((8 - (k + 3) % 8) % 8) false)) n
+    ∙ ap (λ k. overlaid (overlaid (bitsOf s) 0 (body 1 xs)) k (mark 1 ++ replicate ((8 - (length (body 1 xs) + 3) % 8) % 8) false)) (sym (zero-add (length (body 1 xs))))
+    ∙ overlaid-overlaid (bitsOf s) 0 (body 1 xs) (mark 1 ++ replicate ((8 - (length (body 1 xs) + 3) % 8) % 8) false) (omega arith)
 
 abbrev Inv-loop : tie.InvT-loop
-Inv-loop buf₀ words p₀ i₀ buf p i = (i ≤ length words) × (p ≡ length (body 1 (take i words))) × (length buf ≡ length buf₀) × (bitsOf buf ≡ laid (bitsOf buf₀) 0 (body 1 (take i words)))
+Inv-loop buf₀ words p₀ i₀ buf p i = (i ≤ length words) × (p ≡ length (body 1 (take i words))) × (length buf ≡ length buf₀) × (bitsOf buf ≡ overlaid (bitsOf buf₀) 0 (body 1 (take i words)))
 
 abbrev μ-loop : tie.MeasureT-loop
 μ-loop buf₀ words p₀ i₀ buf p i = length words - i
 
 loop-holds : tie.Need-loop-holds Inv-loop μ-loop
 unfolding body
-loop-holds c = (search needs, refl, refl, sym (laid-nil (bitsOf (now (c .before .before .args .buf))) 0))
+loop-holds c = (search needs, refl, refl, sym (overlaid-nil (bitsOf (now (c .before .before .args .buf))) 0))
 
 mul-x : tie.Need-mul-x Inv-loop μ-loop
 mul-x c = omega arith

@@ -1,7 +1,7 @@
 /* One run of the parlour and its steps (document 01, "What each device keeps",
    "The steps", "Numbers a caller gets back"; paper 001, Figure 2). */
-#ifndef PARLOUR_H
-#define PARLOUR_H
+#ifndef RUN_H
+#define RUN_H
 
 #include "books.h"
 

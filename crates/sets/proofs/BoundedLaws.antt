@@ -12,7 +12,7 @@ use lib.Pow.{high, low}
 use borrow.Author.Tests.{ltb-true, ltb-false}
 use Rattle.sets.specs.Choice.{pick, both}
 use Rattle.sets.specs.Sets.{digit, union}
-use Rattle.sets.specs.Below.{times, each, unions, those}
+use Rattle.sets.specs.Bounded.{times, each, unions, those}
 use Rattle.sets.proofs.SetLaws.{digit-low, digit-lt, digit-high, digit-union, in-union}
 
 eq-zero : {n : ℕ} → n ≤ 0 → n ≡ 0

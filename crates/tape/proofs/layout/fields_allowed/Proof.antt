@@ -1,12 +1,12 @@
--- `layout::in_range` meets its contract.
+-- `layout::fields_allowed` meets its contract.
 use borrow.Author.Needs.{needs}
 use mathlib.Core.Path.{ap, _∙_}
 use lib.Dec.{leb}
 use Rattle.tape.specs.Bits.{fieldAt}
 use Rattle.tape.specs.declared.layout.Layout.{Layout}
 use Rattle.tape.proofs.LayoutLaws.{legal-first}
-use Rattle.tape.proofs.layout.in_range.Statement.{statement}
-use Rattle.tape.proofs.layout.in_range.Tie as tie
+use Rattle.tape.proofs.layout.fields_allowed.Statement.{statement}
+use Rattle.tape.proofs.layout.fields_allowed.Tie as tie
 
 layout-of-requires : tie.Need-layout-of-requires
 layout-of-requires c κs = search needs
@@ -22,5 +22,5 @@ returns c =
     ∙ ap (λ (r : Layout). leb (fieldAt (b .args .word) 3 (r .first)) (r .most)) (l .ensures)
     ∙ legal-first (b .args .word) (b .args .kind) (b .pre .0) (b .pre .1)
 
-pub in-range-spec : {M : Type 1} → statement M
-in-range-spec = tie.close (tie.spec layout-of-requires field-requires returns)
+pub fields-allowed-spec : {M : Type 1} → statement M
+fields-allowed-spec = tie.close (tie.spec layout-of-requires field-requires returns)
