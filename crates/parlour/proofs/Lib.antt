@@ -3,8 +3,7 @@
 pub mod Places
 pub mod Passes
 pub mod Taking
--- Of the rules: sets of one number; what a step may do, case by case; how an ask names its pair; what an effect makes of a run.
-pub mod Single
+-- Of the rules: what a step may do, case by case; how an ask names its pair; what an effect makes of a run.
 pub mod Acts
 pub mod Naming
 pub mod Frame

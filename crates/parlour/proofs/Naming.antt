@@ -17,7 +17,7 @@ use Rattle.books.specs.Queried.{changeAt, placeOf, withChange}
 use Rattle.books.proofs.ListedLaws.{place-found, place-new, listed-before, listed-last, listed-length}
 use Rattle.state.specs.State.{allDifferent}
 use Rattle.state.proofs.ListingLaws.{different-more}
-use Rattle.parlour.proofs.Single.{none-in-empty, in-single, single-has}
+use Rattle.sets.proofs.Single.{none-in-empty, in-single, single-has}
 use Rattle.parlour.proofs.Acts.{Naming, contained, listed-already, listed-now}
 
 module _ {config pair : Config} {before : Listed} where

@@ -36,7 +36,7 @@ use Rattle.state.proofs.StateLaws.{proper-parts, answer-to, addressee-to}
 use Rattle.parlour.specs.Steps.{within, slotNamed, slotOf, deviceNamed, deviceOf, hereAt, applied, takenIf, taken}
 use Rattle.parlour.specs.Statements.{deviceAt, tabletAt, Acting, Frees, Halts, OthersStay}
 use Rattle.parlour.proofs.Places.{within-in}
-use Rattle.parlour.proofs.Single.{in-single}
+use Rattle.sets.proofs.Single.{in-single}
 use Rattle.parlour.proofs.Acts.{Acts, refused, asks, hears-request, hears-answer, hears-commit, goes-on, commits, adopts, loses, repeats, stops, messageFor, deviceFor, hereFor, effectFor, acts-for}
 use Rattle.parlour.proofs.Frame.{device-other, tablet-other, slot-other, refusal-leaves}
 use Rattle.parlour.proofs.ProperStays.{listed-stays, listed-longer}

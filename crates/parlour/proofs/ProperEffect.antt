@@ -35,7 +35,7 @@ use Rattle.state.proofs.SlotLaws.{replaced-at}
 use Rattle.state.proofs.StateLaws.{lt-names, Proper}
 use Rattle.state.proofs.ListingLaws.{fits-more, tablet-more, message-more}
 use Rattle.parlour.specs.Steps.{within, messageAt, applied}
-use Rattle.parlour.proofs.Single.{none-in-empty, above-move, in-single}
+use Rattle.sets.proofs.Single.{none-in-empty, above-move, in-single}
 use Rattle.parlour.proofs.Acts.{begins}
 use Rattle.parlour.proofs.Frame.{Source, none, stayed, sent, message-from}
 

@@ -32,7 +32,7 @@ use Rattle.agreement.specs.Setting.{Book as AbstractBook, Contents as AbstractC
 use Rattle.agreement.specs.State.{idle, asking, TabletState, Request as AbstractRequest, Network, State}
 use Rattle.agreement.specs.Steps.{Steady, Allowed, with-request, with-commit, goes-on, gets, Floored as AbstractFloored, stays, set, NextRound, Commits, Adopts, next-round, commits, adopts, next}
 use Rattle.promise.specs.Promise.{Event, lastAsk}
-use Rattle.parlour.proofs.Single.{none-in-empty}
+use Rattle.sets.proofs.Single.{none-in-empty}
 use Rattle.parlour.proofs.Acts.{begins, toAll, Floored, as-saved, now-set}
 use Rattle.parlour.specs.Statements.{deviceAt, tabletAt}
 use Rattle.promise.proofs.Reading.{parlour, asBook, asChanges, asContents, asFloor, book-contained}

@@ -27,7 +27,7 @@ use Rattle.agreement.specs.Setting.{Book as AbstractBook}
 use Rattle.agreement.specs.State.{idle, asking, TabletState, Request as AbstractRequest, Handed, State, books}
 use Rattle.agreement.specs.Steps.{Ask as AbstractAsk, with-request, began, ask, next}
 use Rattle.promise.specs.Promise.{Event, HandedBack, lastAsk, brought}
-use Rattle.parlour.proofs.Single.{none-in-empty}
+use Rattle.sets.proofs.Single.{none-in-empty}
 use Rattle.parlour.proofs.Acts.{begins, tookIn, Naming}
 use Rattle.parlour.proofs.Naming.{naming-same, naming-only, naming-known}
 use Rattle.parlour.specs.Statements.{deviceAt, tabletAt}

@@ -1,13 +1,12 @@
 -- What a book handed back holds was in the first book, or an earlier accepted ask brought it (`comes-from`).
--- Said once for the three sets of a book: its notes, its added and its removed boxes.
+-- Said once for the three things that a book may hold: a note, a box added, a box removed (`Held`).
 use Prim.Native.Nat.{ℕ}
+use mathlib.Core.Bool.{Bool, true}
 use mathlib.Core.Path.{_≡_, refl, sym, ap, subst, _∙_}
 use mathlib.Core.Logic.{_⊎_, inl, inr}
 use mathlib.Core.List.{List, [], _∷_}
 use native.Mathlib.Nat.{lt-irrefl}
 use native.Mathlib.Omega.{arith}
-use Rattle.sets.specs.Sets.{digit, union}
-use Rattle.sets.proofs.SetLaws.{in-union, union-has-left}
 use Rattle.books.specs.declared.Book.{Book}
 use Rattle.books.specs.Books.{joinNotes, joinConfigs}
 use Rattle.devices.specs.declared.Step.{Step}
@@ -25,7 +24,7 @@ use Rattle.promise.proofs.StepFollows.{firstBook, run-stands}
 
 -- ---- Joining books
 
-abbrev joined : AbstractBook parlour → AbstractBook parlour → AbstractBook parlour
+abbrev pub joined : AbstractBook parlour → AbstractBook parlour → AbstractBook parlour
 joined a b = record { notes = joinNotes (a .notes) (b .notes); configuration = joinConfigs (a .configuration) (b .configuration) }
 
 joined-left : (a b : AbstractBook parlour) → Contained a (joined a b)
@@ -52,33 +51,37 @@ all-each first [] b i = absurd i
 all-each first (x ∷ l) b (inl e) = contained-trans (contained-of-eq e) (joined-left x (joinedAll first l))
 all-each first (x ∷ l) b (inr i) = contained-trans (all-each first l b i) (joined-right x (joinedAll first l))
 
--- ---- One of the sets of a book
+-- ---- Something that a book may hold: a note, a box added, a box removed
 
-module _ (set : AbstractBook parlour → ℕ) (joins : (a b : AbstractBook parlour) → set (joined a b) ≡ union (set a) (set b)) (n : ℕ) where
+-- a test that holds of a join where it holds of a side, and only there
+pub record Held (test : AbstractBook parlour → Bool) : Type 0 where
+  pub in-a-side : (a b : AbstractBook parlour) → test (joined a b) ≡ true → (test a ≡ true) ⊎ (test b ≡ true)
+  pub in-the-join : (a b : AbstractBook parlour) → test a ≡ true → test (joined a b) ≡ true
+
+module _ {test : AbstractBook parlour → Bool} (held : Held test) where
   -- what is in a book is in each that contains it
-  in-contained : {a b : AbstractBook parlour} → Contained a b → digit n (set a) ≡ 1 → digit n (set b) ≡ 1
+  in-contained : {a b : AbstractBook parlour} → Contained a b → test a ≡ true → test b ≡ true
   in-contained {a} {b} c h =
       let e : joined a b ≡ b = λ i. record { notes = c .notes .absorbed i; configuration = c .configuration .absorbed i } in
-      sym (ap (digit n) (sym (joins a b) ∙ ap set e)) ∙ union-has-left n (set a) (set b) h
+      sym (ap test e) ∙ held .in-the-join a b h
 
   -- a book of the list that has it
   record OneHas (l : List (AbstractBook parlour)) : Type 0 where
     which : AbstractBook parlour
     among : Among which l
-    there : digit n (set which) ≡ 1
+    there : test which ≡ true
 
-  in-all : (first : AbstractBook parlour) (l : List (AbstractBook parlour)) → digit n (set (joinedAll first l)) ≡ 1
-      → (digit n (set first) ≡ 1) ⊎ OneHas l
+  in-all : (first : AbstractBook parlour) (l : List (AbstractBook parlour)) → test (joinedAll first l) ≡ true → (test first ≡ true) ⊎ OneHas l
   unfolding joinedAll
   in-all first [] h = inl h
-  in-all first (b ∷ l) h = go (in-union n (set b) (set (joinedAll first l)) (ap (digit n) (sym (joins b (joinedAll first l))) ∙ h)) (in-all first l)
+  in-all first (b ∷ l) h = go (held .in-a-side b (joinedAll first l) h) (in-all first l)
     where
-      later : (digit n (set first) ≡ 1) ⊎ OneHas l → (digit n (set first) ≡ 1) ⊎ OneHas (b ∷ l)
+      later : (test first ≡ true) ⊎ OneHas l → (test first ≡ true) ⊎ OneHas (b ∷ l)
       later (inl i) = inl i
       later (inr o) = inr (record { which = o .which; among = inr (o .among); there = o .there })
 
-      go : (digit n (set b) ≡ 1) ⊎ (digit n (set (joinedAll first l)) ≡ 1)
-          → (digit n (set (joinedAll first l)) ≡ 1 → (digit n (set first) ≡ 1) ⊎ OneHas l) → (digit n (set first) ≡ 1) ⊎ OneHas (b ∷ l)
+      go : (test b ≡ true) ⊎ (test (joinedAll first l) ≡ true) → (test (joinedAll first l) ≡ true → (test first ≡ true) ⊎ OneHas l)
+          → (test first ≡ true) ⊎ OneHas (b ∷ l)
       go (inl i) f = inr (record { which = b; among = inl refl; there = i })
       go (inr i) f = later (f i)
 
@@ -111,16 +114,16 @@ earlier-ask {event} {earlier} {tablet} e a = go (a .happened)
 -- ---- Where it comes from
 
 -- an accepted ask that brought it
-pub record BroughtBy (set : AbstractBook parlour → ℕ) (n : ℕ) (h : List Event) : Type 0 where
+pub record BroughtBy (test : AbstractBook parlour → Bool) (h : List Event) : Type 0 where
   pub ask : AcceptedAsk h
-  pub there : digit n (set (asBook (brought (Ask (ask .tablet) (ask .own) (ask .pair))))) ≡ 1
+  pub there : test (asBook (brought (Ask (ask .tablet) (ask .own) (ask .pair)))) ≡ true
 
-module _ (set : AbstractBook parlour → ℕ) (joins : (a b : AbstractBook parlour) → set (joined a b) ≡ union (set a) (set b)) (n first : ℕ) where
+module _ {test : AbstractBook parlour → Bool} (held : Held test) (first : ℕ) where
   -- of the latest book
   latest-from : (steps : List Step) (event : Event) (earlier : List Event) → history first steps ≡ event ∷ earlier
-      → (book : Book) → HandsBack (event .answer) book → digit n (set (asBook book)) ≡ 1
-      → (digit n (set (firstBook first)) ≡ 1) ⊎ BroughtBy set n earlier
-  latest-from steps event earlier e book given i = go (in-all set joins n (firstBook first) (s .asks) (in-contained set joins n within (rw (g .is) i)))
+      → (book : Book) → HandsBack (event .answer) book → test (asBook book) ≡ true
+      → (test (firstBook first) ≡ true) ⊎ BroughtBy test earlier
+  latest-from steps event earlier e book given i = go (in-all held (firstBook first) (s .asks) (in-contained held within (rw (g .is) i)))
     where
       follows : Follows (firstBook first) (after first steps) (event ∷ earlier)
       follows = subst (λ (h : List Event). Follows (firstBook first) (after first steps) h) e (run-stands first steps .follows)
@@ -136,7 +139,7 @@ module _ (set : AbstractBook parlour → ℕ) (joins : (a b : AbstractBook parlo
           agreement parlour (firstBook first) s (follows .run) .from-asks (joinedAll (firstBook first) (s .asks)) (all-first (firstBook first) (s .asks))
           (all-each (firstBook first) (s .asks)) (g .got) (g .among)
 
-      from-ask : (b : AbstractBook parlour) → digit n (set b) ≡ 1 → AskedFor (event ∷ earlier) b → BroughtBy set n earlier
+      from-ask : (b : AbstractBook parlour) → test b ≡ true → AskedFor (event ∷ earlier) b → BroughtBy test earlier
       from-ask b there a =
           record {
             ask =
@@ -150,15 +153,15 @@ module _ (set : AbstractBook parlour → ℕ) (joins : (a b : AbstractBook parlo
                   step = a .ask .step;
                   answer = a .ask .answer;
                 };
-            there = subst (λ (w : Step). digit n (set (asBook (brought w))) ≡ 1) (a .ask .step) (rw (a .brings) at there);
+            there = subst (λ (w : Step). test (asBook (brought w)) ≡ true) (a .ask .step) (rw (a .brings) at there);
           }
 
-      go : (digit n (set (firstBook first)) ≡ 1) ⊎ OneHas set joins n (s .asks) → (digit n (set (firstBook first)) ≡ 1) ⊎ BroughtBy set n earlier
+      go : (test (firstBook first) ≡ true) ⊎ OneHas held (s .asks) → (test (firstBook first) ≡ true) ⊎ BroughtBy test earlier
       go (inl j) = inl j
       go (inr o) = inr (from-ask (o .which) (o .there) (follows .like .asks (o .which) (o .among)))
 
-  pub comes-from : (steps : List Step) (b : HandedBack (history first steps)) → digit n (set (asBook (b .book))) ≡ 1
-      → (digit n (set (firstBook first)) ≡ 1) ⊎ BroughtBy set n (b .earlier)
+  pub comes-from : (steps : List Step) (b : HandedBack (history first steps)) → test (asBook (b .book)) ≡ true
+      → (test (firstBook first) ≡ true) ⊎ BroughtBy test (b .earlier)
   comes-from steps b i =
       let u = up-to first steps (b .event) (b .earlier) (b .happened) in
       latest-from (u .steps) (b .event) (b .earlier) (u .is) (b .book) (b .hands-back) i

@@ -1,36 +1,45 @@
 -- The promise of specs/Promise, proved: the run follows the agreement argument, whose promises are read off for the parlour's books.
-use Prim.Native.Nat.{ℕ, _*_, _%_, _^_}
-use mathlib.Core.Bool.{Bool, true, false}
-use mathlib.Core.Path.{_≡_, refl}
+use Prim.Native.Nat.{ℕ}
+use mathlib.Core.Bool.{true}
+use mathlib.Core.Path.{_≡_}
 use mathlib.Core.Logic.{_⊎_, inl, inr, ⊎-elim}
 use mathlib.Core.List.{List}
-use native.Mathlib.Nat.{mod-lt}
-use native.Mathlib.Omega.{arith}
-use lib.Dec.{ltb}
-use lib.Pow.{pow-pos}
-use Rattle.sets.specs.Choice.{pick}
-use Rattle.sets.specs.Sets.{digit}
-use Rattle.books.specs.Books.{owner, ownNotes, bookInside}
+use Rattle.sets.specs.Sets.{has}
+use Rattle.sets.proofs.SetLaws.{has-digit, has-union, union-has}
+use Rattle.sets.proofs.Single.{none-in-empty}
+use Rattle.books.specs.Books.{hasNote, bookInside}
+use Rattle.books.proofs.NoteLaws.{note-in-join, note-stays, no-note, own-note}
 use Rattle.devices.specs.declared.Step.{Step}
 use Rattle.agreement.specs.Setting.{Contained}
 use Rattle.agreement.specs.Agreement.{Promises}
 use Rattle.agreement.proofs.Agreement.{agreement}
 use Rattle.promise.specs.Promise.{after, history, HandedBack, ContainsOwnAsk, NoteAsked, BoxAdded, BoxRemoved, Promise, Promised}
 use Rattle.promise.proofs.Reading.{parlour, ofBook, contained-book}
-use Rattle.parlour.proofs.Single.{none-in-empty, in-moved}
 use Rattle.promise.proofs.Likeness.{GotBack}
 use Rattle.promise.proofs.Following.{Follows}
 use Rattle.promise.proofs.StepFollows.{firstBook, run-stands}
-use Rattle.promise.proofs.FromAsks.{comes-from}
+use Rattle.promise.proofs.FromAsks.{Held, comes-from}
 
--- "Tablet t owns 8t to 8t+7": a note among a tablet's own own is the tablet's
-own-note : (tablet own note : ℕ) → digit note (ownNotes tablet own .set) ≡ 1 → tablet ≡ owner note
-unfolding ownNotes
-own-note tablet own note h = go (ltb 7 tablet) h
-  where
-    go : (b : Bool) → digit note (pick b 0 (own % 2 ^ 8 * 2 ^ (8 * tablet))) ≡ 1 → tablet ≡ owner note
-    go true i = absurd (none-in-empty note i)
-    go false i = let m = in-moved 8 (8 * tablet) (own % 2 ^ 8) note (mod-lt own (pow-pos 8)) i in omega arith
+-- ---- A note, a box added, a box removed
+
+note-held : (note : ℕ) → Held (λ b. hasNote note (b .notes))
+note-held note = record { in-a-side = λ a b. note-in-join note (a .notes) (b .notes); in-the-join = λ a b. note-stays note (a .notes) (b .notes) }
+
+added-held : (box : ℕ) → Held (λ b. has box (b .configuration .added))
+added-held box =
+    record {
+      in-a-side = λ a b. has-union box (a .configuration .added) (b .configuration .added);
+      in-the-join = λ a b. union-has box (a .configuration .added) (b .configuration .added);
+    }
+
+removed-held : (box : ℕ) → Held (λ b. has box (b .configuration .removed))
+removed-held box =
+    record {
+      in-a-side = λ a b. has-union box (a .configuration .removed) (b .configuration .removed);
+      in-the-join = λ a b. union-has box (a .configuration .removed) (b .configuration .removed);
+    }
+
+-- ---- The promise
 
 module _ (first : ℕ) (steps : List Step) where
   follows : Follows (firstBook first) (after first steps) (history first steps)
@@ -56,21 +65,20 @@ module _ (first : ℕ) (steps : List Step) where
         contained = contained-book (rw (g .is) at (promises .own-ask (g .got) (g .among)));
       }
 
-  note-asked : (a : HandedBack (history first steps)) (note : ℕ) → digit note (a .book .notes .set) ≡ 1 → NoteAsked note (a .earlier)
+  note-asked : (a : HandedBack (history first steps)) (note : ℕ) → hasNote note (a .book .notes) ≡ true → NoteAsked note (a .earlier)
   note-asked a note i =
-      ⊎-elim (λ none. absurd (none-in-empty note none))
+      ⊎-elim (λ none. absurd (no-note note none))
       (λ q. record { ask = q .ask; there = q .there; by-owner = own-note (q .ask .tablet) (q .ask .own) note (q .there) })
-      (comes-from (λ b. b .notes .set) (λ x y. refl) note first steps a i)
+      (comes-from (note-held note) first steps a i)
 
-  box-added : (a : HandedBack (history first steps)) (box : ℕ) → digit box (a .book .config .added) ≡ 1
-      → (digit box first ≡ 1) ⊎ BoxAdded box (a .earlier)
-  box-added a box i =
-      ⊎-elim inl (λ q. inr (record { ask = q .ask; there = q .there })) (comes-from (λ b. b .configuration .added) (λ x y. refl) box first steps a i)
+  box-added : (a : HandedBack (history first steps)) (box : ℕ) → has box (a .book .config .added) ≡ true
+      → (has box first ≡ true) ⊎ BoxAdded box (a .earlier)
+  box-added a box i = ⊎-elim inl (λ q. inr (record { ask = q .ask; there = q .there })) (comes-from (added-held box) first steps a i)
 
-  box-removed : (a : HandedBack (history first steps)) (box : ℕ) → digit box (a .book .config .removed) ≡ 1 → BoxRemoved box (a .earlier)
+  box-removed : (a : HandedBack (history first steps)) (box : ℕ) → has box (a .book .config .removed) ≡ true → BoxRemoved box (a .earlier)
   box-removed a box i =
-      ⊎-elim (λ none. absurd (none-in-empty box none)) (λ q. record { ask = q .ask; there = q .there })
-      (comes-from (λ b. b .configuration .removed) (λ x y. refl) box first steps a i)
+      ⊎-elim (λ none. absurd (none-in-empty box (has-digit box 0 none))) (λ q. record { ask = q .ask; there = q .there })
+      (comes-from (removed-held box) first steps a i)
 
   kept : Promise first (history first steps)
   kept =

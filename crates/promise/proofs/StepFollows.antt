@@ -1,13 +1,15 @@
 -- Every step of the rules is a step of the agreement argument, or none: refused, lost, repeated and stopped leave the argument where it is.
 -- So every run from a fresh start follows the argument (`run-stands`).
-use Prim.Native.Nat.{ℕ, zero, suc, _+_, _<_}
+use Prim.Native.Nat.{ℕ, zero, suc, _+_, _<_, _≤_}
 use mathlib.Core.Bool.{Bool, true, false}
 use mathlib.Core.Path.{_≡_, refl, sym, ap, subst, _∙_}
 use mathlib.Core.List.{List, [], _∷_}
+use native.Mathlib.Nat.{lt-irrefl}
 use native.Mathlib.Omega.{arith}
 use lib.Dec.{ltb}
 use lib.ListN.{getD, replicate, getD-replicate}
-use borrow.Author.Tests.{ltb-true, ltb-false}
+use borrow.Author.Tests.{ltb-true, ltb-false, ne-eqb}
+use Rattle.sets.specs.Choice.{both}
 use Rattle.sets.specs.Sets.{has}
 use Rattle.devices.specs.declared.Notice.{Notice}
 use Rattle.devices.specs.declared.Message.{Message}
@@ -28,7 +30,7 @@ use Rattle.parlour.specs.Steps.{within, slotOf, deviceOf, deviceNamed, messageA
 use Rattle.agreement.specs.Setting.{Book as AbstractBook}
 use Rattle.agreement.specs.State.{idle, State, told}
 use Rattle.agreement.specs.Steps.{start}
-use Rattle.promise.specs.Promise.{Event, askedBy, after, history}
+use Rattle.promise.specs.Promise.{Event, isAskOf, askedBy, after, history}
 use Rattle.promise.proofs.Reading.{parlour, asBook, changesBelow}
 use Rattle.parlour.proofs.Acts.{Acts, refused, asks, hears-request, hears-answer, hears-commit, goes-on, commits, adopts, loses, repeats, stops, acts}
 use Rattle.state.proofs.StateLaws.{sized-fresh, proper-parts, parts-proper, fresh-proper, request-to, answer-to}
@@ -98,30 +100,34 @@ module _ {first : AbstractBook parlour} {r : Run} {h : List Event} (now : Standi
   named-here : {n : ℕ} → d ≡ within 24 n → n < 24 → n ≡ d
   named-here {n} e l = within-in 24 n l ∙ sym e
 
-  acts-follow : {known : Bool} {step : Step} {m : Message} {e : Effect} → Acts known (hereAt d r) step m e → d ≡ deviceOf step m
+  -- what is refused by a number from 2 on is no accepted ask
+  refused-quiet : (step : Step) (n : ℕ) → 2 ≤ n → (q : ℕ) → askedBy q (record { step = step; answer = Refused n }) ≡ false
+  refused-quiet step n l q = ap (λ (b : Bool). both b (isAskOf q step)) (ne-eqb n 0 (λ e. lt-irrefl 0 (omega arith)))
+
+  acts-follow : {known : Bool} {step : Step} {m : Message} {e : Effect} → Acts known (hereAt d r) step m e → known ≡ true → d ≡ deviceOf step m
       → properMessage (r .listed .count) m ≡ true → Sent (r .listed) (s .network) m
       → Follows first (applied slot d e r .run) (record { step = step; answer = e .outcome } ∷ h)
   unfolding hereAt refuse
-  acts-follow (refused step m n b) at q was = quiet-follows step (Refused n) false false noSending (λ k. refl) (silent-refused n) (λ j u i. tt)
-  acts-follow (asks tablet own pair m listed named l i x naming) at q was =
+  acts-follow (refused step m n b) is at q was = quiet-follows step (Refused n) false false noSending (refused-quiet step n (b is)) (silent-refused n) (λ j u i. tt)
+  acts-follow (asks tablet own pair m listed named l i x naming) is at q was =
       ask-follows now slot d tablet own pair listed named (named-here at (omega arith)) l i naming
-  acts-follow (hears-request k l) at q was =
+  acts-follow (hears-request k l) is at q was =
       let to = request-to (r .listed .count) l q in
       let e : l .to ≡ d = named-here at (to .1) in
       request-follows now slot d k (omega arith) low l (sym e) was
-  acts-follow (hears-answer k l) at q was =
+  acts-follow (hears-answer k l) is at q was =
       let to = answer-to (r .listed .count) l q in
       let e : l .to ≡ d = named-here at (omega arith) in
       answer-follows now slot d k (omega arith) l (sym e) was
-  acts-follow (hears-commit k c) at q was = commit-heard k c was
-  acts-follow (goes-on tablet m a floor l i x f) at q was = round-follows now slot d tablet a (named-here at (omega arith)) l i floor f
-  acts-follow (commits tablet m a l i enough same candidates) at q was =
+  acts-follow (hears-commit k c) is at q was = commit-heard k c was
+  acts-follow (goes-on tablet m a floor l i x f) is at q was = round-follows now slot d tablet a (named-here at (omega arith)) l i floor f
+  acts-follow (commits tablet m a l i enough same candidates) is at q was =
       commit-follows now slot d tablet a (named-here at (omega arith)) l i enough same candidates
-  acts-follow (adopts tablet m a floor l i f e) at q was = adopt-follows now slot d tablet a (named-here at (omega arith)) l i floor f e
-  acts-follow (loses k m) at q was = quiet-follows (Lose k) Done true false noSending (λ j. refl) silent-done (λ j u i. tt)
-  acts-follow (repeats k m) at q was =
+  acts-follow (adopts tablet m a floor l i f e) is at q was = adopt-follows now slot d tablet a (named-here at (omega arith)) l i floor f e
+  acts-follow (loses k m) is at q was = quiet-follows (Lose k) Done true false noSending (λ j. refl) silent-done (λ j u i. tt)
+  acts-follow (repeats k m) is at q was =
       quiet-follows (Repeat k) Done false false (record { message = m; to = only (addressee m) }) (λ j. refl) silent-done (λ j u i. repeated m was j i)
-  acts-follow (stops device m) at q was = quiet-follows (Stop device) Done false true noSending (λ j. refl) silent-done (λ j u i. tt)
+  acts-follow (stops device m) is at q was = quiet-follows (Stop device) Done false true noSending (λ j. refl) silent-done (λ j u i. tt)
 
 -- ---- The step
 
@@ -131,7 +137,7 @@ unfolding taken takenIf applied
 step-follows {r = r} step now =
     let m = messageAt (slotOf step) r in
     let d = deviceOf step m in
-    acts-follow now (slotOf step) d (within-lt 24 (deviceNamed step m) (omega arith)) (acts (proper r) step m (hereAt d r)) refl
+    acts-follow now (slotOf step) d (within-lt 24 (deviceNamed step m) (omega arith)) (acts (proper r) step m (hereAt d r)) (parts-proper r (now .parts)) refl
     (now .parts .messages (slotOf step)) (now .follows .like .slots (slotOf step))
 
 -- ---- The run

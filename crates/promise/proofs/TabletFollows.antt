@@ -30,7 +30,7 @@ use Rattle.agreement.specs.Setting.{Book as AbstractBook, Contents as AbstractC
 use Rattle.agreement.specs.State.{asking, TabletState, State}
 use Rattle.agreement.specs.Steps.{goes-on, Heard, an-answer, a-commit, TabletCounts, tablet-hears, tablet-counts, next}
 use Rattle.promise.specs.Promise.{Event, lastAsk}
-use Rattle.parlour.proofs.Single.{none-in-empty, in-single}
+use Rattle.sets.proofs.Single.{none-in-empty, in-single}
 use Rattle.parlour.specs.Statements.{deviceAt, tabletAt}
 use Rattle.promise.proofs.Reading.{parlour, asBook, asContents}
 use Rattle.promise.proofs.Merges.{merged-as, told-as}

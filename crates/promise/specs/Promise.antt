@@ -12,14 +12,14 @@ use mathlib.Core.List.{List, [], _∷_}
 use mathlib.Core.Option.{Option, none, some}
 use lib.Dec.{eqb}
 use Rattle.sets.specs.Choice.{pick, both}
-use Rattle.sets.specs.Sets.{digit}
+use Rattle.sets.specs.Sets.{has}
 use Rattle.books.specs.declared.Config.{Config}
 use Rattle.books.specs.declared.Book.{Book}
-use Rattle.books.specs.Books.{owner, ownNotes, noBook, bookInside}
+use Rattle.books.specs.Books.{owner, hasNote, ownNotes, noBook, bookInside}
 use Rattle.devices.specs.declared.Step.{Step}
 use Rattle.devices.specs.declared.Step.the-variants.{Ask, Advance, Deliver, Lose, Repeat, Stop}
 use Rattle.devices.specs.declared.Outcome.{Outcome}
-use Rattle.devices.specs.declared.Outcome.the-variants.{Done, Round, Committed, Adopted, Refused}
+use Rattle.devices.specs.Effects.{answerOf, numberOf}
 use Rattle.state.specs.declared.Run.{Run}
 use Rattle.state.specs.State.{fresh}
 use Rattle.parlour.specs.Steps.{taken}
@@ -51,7 +51,7 @@ Happened event earlier (latest ∷ before) = ((event ≡ latest) × (earlier ≡
 
 -- the answer hands back the book, committed or adopted
 abbrev pub HandsBack : Outcome → Book → Type 0
-HandsBack answer book = (answer ≡ Committed book) ⊎ (answer ≡ Adopted book)
+HandsBack answer book = (answerOf answer .committed ≡ some book) ⊎ (answerOf answer .adopted ≡ some book)
 
 -- a book handed back in a history: by which event, and what came before it
 pub record HandedBack (h : List Event) : Type 0 where
@@ -63,13 +63,9 @@ pub record HandedBack (h : List Event) : Type 0 where
 
 -- ---- Accepted asks
 
--- a step is accepted where its answer is no refusal
+-- a step is accepted where its answer is no refusal: its number is 0, "done"
 abbrev pub accepted : Outcome → Bool
-accepted Done = true
-accepted (Round n) = true
-accepted (Committed b) = true
-accepted (Adopted b) = true
-accepted (Refused n) = false
+accepted answer = eqb (numberOf answer) 0
 
 -- an accepted ask of a history
 pub record AcceptedAsk (h : List Event) : Type 0 where
@@ -122,17 +118,17 @@ pub record ContainsOwnAsk (event : Event) (earlier : List Event) (book : Book) :
 -- the note was among the own notes of an accepted ask, and the ask was of the note's owner, tablet n / 8
 pub record NoteAsked (note : ℕ) (h : List Event) : Type 0 where
   pub ask : AcceptedAsk h
-  pub there : digit note (ownNotes (ask .tablet) (ask .own) .set) ≡ 1
+  pub there : hasNote note (ownNotes (ask .tablet) (ask .own)) ≡ true
   pub by-owner : ask .tablet ≡ owner note
 
 -- an accepted ask added the box, or removed it
 pub record BoxAdded (box : ℕ) (h : List Event) : Type 0 where
   pub ask : AcceptedAsk h
-  pub there : digit box (ask .pair .added) ≡ 1
+  pub there : has box (ask .pair .added) ≡ true
 
 pub record BoxRemoved (box : ℕ) (h : List Event) : Type 0 where
   pub ask : AcceptedAsk h
-  pub there : digit box (ask .pair .removed) ≡ 1
+  pub there : has box (ask .pair .removed) ≡ true
 
 pub record Promise (first : ℕ) (h : List Event) : Type 0 where
   -- Of any two books handed back one contains the other: notes, added and removed alike.
@@ -140,12 +136,12 @@ pub record Promise (first : ℕ) (h : List Event) : Type 0 where
   -- Each book handed back contains what its own ask brought.
   pub own-ask : (a : HandedBack h) → ContainsOwnAsk (a .event) (a .earlier) (a .book)
   -- Every note in it came from an earlier accepted ask of its owner.
-  pub notes-from-asks : (a : HandedBack h) (note : ℕ) → digit note (a .book .notes .set) ≡ 1 → NoteAsked note (a .earlier)
+  pub notes-from-asks : (a : HandedBack h) (note : ℕ) → hasNote note (a .book .notes) ≡ true → NoteAsked note (a .earlier)
   -- Every box added in it is a first box, or an earlier accepted ask added it.
-  pub added-from-asks : (a : HandedBack h) (box : ℕ) → digit box (a .book .config .added) ≡ 1
-      → (digit box first ≡ 1) ⊎ BoxAdded box (a .earlier)
+  pub added-from-asks : (a : HandedBack h) (box : ℕ) → has box (a .book .config .added) ≡ true
+      → (has box first ≡ true) ⊎ BoxAdded box (a .earlier)
   -- Every box removed in it was removed by an earlier accepted ask.
-  pub removed-from-asks : (a : HandedBack h) (box : ℕ) → digit box (a .book .config .removed) ≡ 1 → BoxRemoved box (a .earlier)
+  pub removed-from-asks : (a : HandedBack h) (box : ℕ) → has box (a .book .config .removed) ≡ true → BoxRemoved box (a .earlier)
 
 -- Every run keeps the promise.
 abbrev pub Promised : Type 0

@@ -1,5 +1,6 @@
 pub mod Semilattice
 pub mod SetLaws
+pub mod Single
 pub mod BoundedLaws
 pub mod Parts
 pub mod MajorityLaws

@@ -3,7 +3,7 @@
 use Prim.Native.Nat.{ℕ, zero, suc, _+_, _-_, _/_, _%_, _^_, _<_, _≤_, min, max}
 use mathlib.Core.Bool.{Bool, true, false}
 use mathlib.Core.Path.{_≡_, refl, sym, ap, ap₂, _∙_}
-use mathlib.Core.Logic.{_⊎_, inl, inr}
+use mathlib.Core.Logic.{_⊎_, inl, inr, ⊎-elim}
 use native.Mathlib.Nat.{div-one, max-eq-right, div-eq-of-lt, lt-of-lt-of-le, lt-irrefl}
 use native.Mathlib.Omega.{arith}
 use native.Mathlib.Numerals.{one-add}
@@ -155,6 +155,13 @@ union-has-left n a b h = omega (arith, digit-union n a b, digit-lt n b)
 
 pub union-has-right : (n a b : ℕ) → digit n b ≡ 1 → digit n (union a b) ≡ 1
 union-has-right n a b h = omega (arith, digit-union n a b, digit-lt n a)
+
+-- the same, as a test
+pub has-union : (n a b : ℕ) → has n (union a b) ≡ true → (has n a ≡ true) ⊎ (has n b ≡ true)
+has-union n a b h = ⊎-elim (λ l. inl (digit-has n a l)) (λ r. inr (digit-has n b r)) (in-union n a b (has-digit n (union a b) h))
+
+pub union-has : (n a b : ℕ) → has n a ≡ true → has n (union a b) ≡ true
+union-has n a b h = digit-has n (union a b) (union-has-left n a b (has-digit n a h))
 
 -- a number among the members is added and not removed, and the other way
 pub in-members : (n added removed : ℕ) → digit n (members added removed) ≡ 1 → (digit n added ≡ 1) × (digit n removed ≡ 0)
