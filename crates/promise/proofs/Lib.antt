@@ -13,6 +13,8 @@ pub mod BoxFollows
 pub mod TabletFollows
 pub mod AdvanceFollows
 pub mod StepFollows
+-- What every run keeps.
+pub mod Reachable
 -- The promise, read off the argument's, and two runs that it speaks of.
 pub mod FromAsks
 pub mod Promise

@@ -1,2 +1,3 @@
--- What is promised of every run.
+-- What is promised of every run, and what every run keeps.
 pub mod Promise
+pub mod Reachable
