@@ -10,7 +10,7 @@ use Rattle.sets.specs.Choice.{pick}
 use Rattle.books.specs.declared.Config.{Config}
 use Rattle.books.specs.declared.Book.{Book}
 use Rattle.books.specs.declared.Listed.{Listed}
-use Rattle.books.specs.Books.{ownNotes, configInside, sameNotes}
+use Rattle.books.specs.Books.{ownNotes, configInside}
 use Rattle.books.specs.Queried.{placeOf, withChange, askedBoxes}
 use Rattle.devices.specs.declared.Contents.{Contents}
 use Rattle.devices.specs.declared.Asking.{Asking}
@@ -31,7 +31,7 @@ use Rattle.devices.specs.declared.Step.{Step}
 use Rattle.devices.specs.declared.Step.the-variants.{Ask, Advance, Deliver, Lose, Repeat, Stop}
 use Rattle.devices.specs.Contents.{merged, broughtBy}
 use Rattle.devices.specs.Effects.{only, addressee, isEmpty, noSending, refuse}
-use Rattle.rules.specs.Rules.{asking, requests, begun, askWith, askPair, askIn, ask, heard, answerTo, marked, deliver, decided, allowed, steady, orSet, handsBack, commit, floorInside, adoptOr, advanceFrom, advanceIn, advance, leaves, lose, again, stop, inRange, ruled, effectOf}
+use Rattle.rules.specs.Rules.{asking, requests, begun, askWith, askPair, askIn, ask, heard, answerTo, marked, deliver, decided, allowed, steady, sameCandidates, orSet, handsBack, commit, floorInside, adoptOr, advanceFrom, advanceIn, advance, leaves, lose, again, stop, inRange, ruled, effectOf}
 use Rattle.state.specs.declared.Run.{Run}
 use Rattle.state.specs.State.{proper}
 use Rattle.parlour.specs.Steps.{slotOf, deviceOf, messageAt, hereAt}
@@ -93,7 +93,7 @@ pub data Acts (proper : Bool) (h : Here) : Step → Message → Effect → Type 
   goes-on : (tablet : ℕ) (m : Message) (a : Asking) (floor : Floor) → tablet ≤ 7 → h .tablet .phase ≡ Asks a → h .tablet .round ≤ 1022
       → Floored a h floor → Acts proper h (Advance tablet) m (begins tablet (Round (h .tablet .round + 1)) floor (h .listed) (h .contents) h)
   commits : (tablet : ℕ) (m : Message) (a : Asking) → tablet ≤ 7 → h .tablet .phase ≡ Asks a → allowed a h ≡ true → steady a h ≡ true
-      → sameNotes (h .contents .candidates) (a .candidates) ≡ true
+      → sameCandidates a h ≡ true
       → Acts proper h (Advance tablet) m (handsBack (Committed (decided h)) (toAll tablet (decided h)) h)
   adopts : (tablet : ℕ) (m : Message) (a : Asking) (floor : Floor) → tablet ≤ 7 → h .tablet .phase ≡ Asks a → Floored a h floor
       → floorInside floor (h .contents .v) ≡ true
@@ -165,7 +165,7 @@ module _ (proper : Bool) (m : Message) (h : Here) where
       in-phase (Asks a) i =
           either P (allowed a h) _ _
           (λ p. either P (steady a h) _ _
-          (λ q. either P (sameNotes (h .contents .candidates) (a .candidates)) _ _
+          (λ q. either P (sameCandidates a h) _ _
           (λ c. either P (ltb (h .free) 24) _ _ (λ d. refused _ m 10 (λ p. omega arith)) (λ d. commits tablet m a l i p q c))
           (λ c. adopt-or a i _ (or-set a p q (a .floor) refl)))
           (λ q. adopt-or a i (a .floor) (as-saved (a .floor) refl)))

@@ -5,7 +5,7 @@ use mathlib.Core.Bool.{Bool, true, false}
 use mathlib.Core.Path.{_≡_, refl, sym, ap, _∙_}
 use native.Mathlib.Nat.{lt-of-le-of-lt}
 use native.Mathlib.Omega.{arith}
-use lib.Dec.{ltb, leb, eqb}
+use lib.Dec.{ltb, leb}
 use borrow.Author.Tests.{lt-ltb, le-leb}
 use Rattle.sets.specs.Choice.{pick, both}
 use Rattle.sets.specs.Sets.{has, union}
@@ -28,7 +28,7 @@ use Rattle.devices.specs.declared.Here.{Here}
 use Rattle.devices.specs.declared.Effect.{Effect}
 use Rattle.devices.specs.Contents.{freshContents, freshTablet, merged}
 use Rattle.devices.specs.Effects.{addressed, addressee, only, boxOf}
-use Rattle.rules.specs.Rules.{marked, markedIn}
+use Rattle.rules.specs.Rules.{ofItsRound, marked, markedIn}
 use Rattle.state.specs.declared.Run.{Run}
 use Rattle.state.specs.State.{namesListed, allDifferent, properPhase, properTablet, isTablet, isBox, properLetter, properMessage}
 use Rattle.state.proofs.SlotLaws.{replaced-at}
@@ -86,7 +86,7 @@ merged-fits n listed mine theirs p q =
 -- marking a box changes neither the round nor what was saved
 pub marked-proper : (n : ℕ) (l : Letter) (x : Tablet) → properTablet n x ≡ true → properTablet n (marked l x) ≡ true
 unfolding marked
-marked-proper n l x h = go (eqb (l .round) (x .round))
+marked-proper n l x h = go (ofItsRound l x)
   where
     same : (box : ℕ) (phase : Phase) → properPhase n phase ≡ properPhase n (markedIn box phase)
     same box Idle = refl

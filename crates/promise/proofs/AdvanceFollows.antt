@@ -7,11 +7,10 @@ use mathlib.Core.List.{List, _∷_}
 use mathlib.Core.Option.{Option, some}
 use native.Mathlib.Numerals.{add-one}
 use native.Mathlib.Omega.{arith}
-use lib.Dec.{eqb}
 use borrow.Author.Tests.{eqb-true}
 use Rattle.sets.proofs.BoundedLaws.{both-left, both-right, pick-true}
+use Rattle.books.specs.declared.Config.{Config}
 use Rattle.books.specs.declared.Book.{Book}
-use Rattle.books.specs.Books.{sameNotes, sameConfig}
 use Rattle.books.specs.Queried.{everyMajority}
 use Rattle.books.proofs.BookLaws.{notes-decided, configs-decided}
 use Rattle.devices.specs.declared.Asking.{Asking}
@@ -22,10 +21,11 @@ use Rattle.devices.specs.declared.Floor.{Floor}
 use Rattle.devices.specs.declared.Floor.the-variants.{Unset, Set}
 use Rattle.devices.specs.declared.Outcome.{Outcome}
 use Rattle.devices.specs.declared.Outcome.the-variants.{Round, Committed, Adopted}
+use Rattle.devices.specs.declared.Here.{Here}
 use Rattle.devices.specs.declared.Effect.{Effect}
 use Rattle.devices.specs.declared.Step.the-variants.{Advance}
 use Rattle.devices.specs.Effects.{noSending}
-use Rattle.rules.specs.Rules.{asking as asking-now, decided, allowed, steady, floorInside, handsBack}
+use Rattle.rules.specs.Rules.{asking as asking-now, decided, allowed, steady, sameCandidates, floorInside, handsBack}
 use Rattle.state.specs.declared.Run.{Run}
 use Rattle.parlour.specs.Steps.{within, hereAt, applied}
 use Rattle.agreement.specs.Setting.{Book as AbstractBook, Contents as AbstractContents, decide}
@@ -40,6 +40,37 @@ use Rattle.promise.proofs.Changes.{joined-as, allowed-as}
 use Rattle.promise.proofs.History.{beforeAsk, last-stays, before-stays, silent-round, handed-committed, handed-adopted}
 use Rattle.promise.proofs.Likeness.{PhaseLike, TabletLike, GotBack, AsksLike, is-asking, same-list, no-more}
 use Rattle.promise.proofs.Following.{Follows, Standing, replaced, moves-tablet, tablet-here, tablet-is, asks-after, after-tablet}
+
+-- ---- What the tests of lines 9 to 12 say of the saved values, whichever side of an equality they stand on
+
+module _ (a : Asking) (h : Here) where
+  saved-config : steady a h ≡ true → a .config ≡ h .contents .v .config
+  unfolding steady
+  saved-config e = search (both-left, configs-decided .same-eq, sym)
+
+  saved-changes : steady a h ≡ true → a .t ≡ h .contents .t
+  unfolding steady
+  saved-changes e = search (both-right, eqb-true, sym)
+
+  saved-candidates : sameCandidates a h ≡ true → a .candidates ≡ h .contents .candidates
+  saved-candidates e = search (notes-decided .same-eq, sym)
+
+  -- what the rules see, were the configuration of v another
+  abbrev under : Config → Here
+  under c =
+      record {
+        contents =
+            record { v = record { notes = h .contents .v .notes; config = c }; candidates = h .contents .candidates; t = h .contents .t };
+        tablet = h .tablet;
+        listed = h .listed;
+        free = h .free;
+        stopped = h .stopped;
+      }
+
+  saved-majorities : allowed a h ≡ true → steady a h ≡ true → everyMajority (h .listed) (a .config) (a .t) (a .answered) ≡ true
+  unfolding allowed
+  saved-majorities e q =
+      pick-true _ _ (configs-decided .eq-same (a .config) (a .config) refl) ∙ subst (λ (c : Config). allowed a (under c) ≡ true) (sym (saved-config q)) e
 
 module _ {first : AbstractBook parlour} {r : Run} {h : List Event} (now : Standing first r h) (slot d : ℕ) (tablet : ℕ) (a : Asking)
     (at : tablet ≡ d) (l : tablet ≤ 7) (asks : hereAt d r .tablet .phase ≡ Asks a) where
@@ -67,31 +98,19 @@ module _ {first : AbstractBook parlour} {r : Run} {h : List Event} (now : Standi
 
   -- ---- The tests of lines 9 to 12
 
-  same-config : steady a (hereAt d r) ≡ true → sameConfig (deviceAt d r .v .config) (a .config) ≡ true
-  unfolding steady hereAt
-  same-config e = both-left (sameConfig (deviceAt d r .v .config) (a .config)) (eqb (deviceAt d r .t) (a .t)) e
-
   steady-as : steady a (hereAt d r) ≡ true → Steady (alike .pending .saved) x
-  unfolding steady hereAt
+  unfolding hereAt
   steady-as e =
-      record { configuration = alike .like .config ∙ sym config; to = λ u i. rw same at i; back = λ u i. rw same i }
+      record { configuration = alike .like .config ∙ saved-config a (hereAt d r) e; to = λ u i. rw same at i; back = λ u i. rw same i }
     where
-      config : deviceAt d r .v .config ≡ a .config
-      config = configs-decided .same-eq (deviceAt d r .v .config) (a .config) (same-config e)
-
-      t : deviceAt d r .t ≡ a .t
-      t = eqb-true (deviceAt d r .t) (a .t) (both-right (sameConfig (deviceAt d r .v .config) (a .config)) (eqb (deviceAt d r .t) (a .t)) e)
-
       same : alike .pending .saved .changes ≡ asChanges (r .listed) (deviceAt d r .t)
-      same = alike .like .changes ∙ ap (asChanges (r .listed)) (sym t)
+      same = alike .like .changes ∙ ap (asChanges (r .listed)) (saved-changes a (hereAt d r) e)
 
   allowed-here : allowed a (hereAt d r) ≡ true → steady a (hereAt d r) ≡ true → Allowed (alike .pending .saved) (alike .pending .answered)
-  unfolding allowed hereAt
+  unfolding hereAt
   allowed-here e q =
-      rw (alike .like .answered) (allowed-as (r .listed) (a .t) (a .answered) (alike .pending .saved) (alike .like .changes) (rw (alike .like .config) majorities))
-    where
-      majorities : everyMajority (r .listed) (a .config) (a .t) (a .answered) ≡ true
-      majorities = pick-true (everyMajority (r .listed) (a .config) (a .t) (a .answered)) true (same-config q) ∙ e
+      rw (alike .like .answered) (allowed-as (r .listed) (a .t) (a .answered) (alike .pending .saved) (alike .like .changes)
+      (rw (alike .like .config) (saved-majorities a (hereAt d r) e q)))
 
   -- the candidates with v's configuration joined with T
   decided-as : decide x ≡ asBook (decided (hereAt d r))
@@ -207,8 +226,9 @@ module _ {first : AbstractBook parlour} {r : Run} {h : List Event} (now : Standi
   abbrev commits-book : Effect
   commits-book = handsBack (Committed (decided (hereAt d r))) (toAll tablet (decided (hereAt d r))) (hereAt d r)
 
-  commit-step : allowed a (hereAt d r) ≡ true → steady a (hereAt d r) ≡ true → sameNotes (deviceAt d r .candidates) (a .candidates) ≡ true
+  commit-step : allowed a (hereAt d r) ≡ true → steady a (hereAt d r) ≡ true → sameCandidates a (hereAt d r) ≡ true
       → Commits s (gives (with-commit (s .network) (decide x)) (decide x))
+  unfolding hereAt
   commit-step enough same candidates =
       record {
         tablet = d;
@@ -217,7 +237,7 @@ module _ {first : AbstractBook parlour} {r : Run} {h : List Event} (now : Standi
         contents = x;
         allowed = allowed-here enough same;
         steady = steady-as same;
-        candidates = alike .like .candidates ∙ sym (notes-decided .same-eq (deviceAt d r .candidates) (a .candidates) candidates);
+        candidates = alike .like .candidates ∙ saved-candidates a (hereAt d r) candidates;
         moves = moves-tablet s d _ idle-now (with-commit (s .network) (decide x)) (gets (alike .pending) (decide x) ∷ s .handed) (s .asks) was;
         network = refl;
         handed = refl;
@@ -225,7 +245,7 @@ module _ {first : AbstractBook parlour} {r : Run} {h : List Event} (now : Standi
       }
 
   pub commit-follows : allowed a (hereAt d r) ≡ true → steady a (hereAt d r) ≡ true
-      → sameNotes (hereAt d r .contents .candidates) (a .candidates) ≡ true
+      → sameCandidates a (hereAt d r) ≡ true
       → Follows first (applied slot d commits-book r .run) (record { step = Advance tablet; answer = Committed (decided (hereAt d r)) } ∷ h)
   unfolding hereAt
   commit-follows enough same candidates =

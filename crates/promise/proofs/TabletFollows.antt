@@ -5,8 +5,9 @@ use mathlib.Core.Bool.{Bool, true, false}
 use mathlib.Core.Path.{_≡_, refl, sym, ap, subst, _∙_}
 use mathlib.Core.Logic.{_⊎_, inl, inr}
 use mathlib.Core.List.{List, _∷_}
-use lib.Dec.{ltb, leb, eqb}
-use borrow.Author.Tests.{eqb-true}
+use native.Mathlib.Omega.{arith}
+use lib.Dec.{ltb, leb}
+use borrow.Author.Tests.{eqb-true, leb-true, ltb-true}
 use Rattle.sets.specs.Choice.{pick, both}
 use Rattle.sets.specs.Sets.{digit, union}
 use Rattle.sets.proofs.SetLaws.{in-union}
@@ -23,7 +24,7 @@ use Rattle.devices.specs.declared.Effect.{Effect}
 use Rattle.devices.specs.declared.Step.the-variants.{Deliver}
 use Rattle.devices.specs.Contents.{merged, broughtBy}
 use Rattle.devices.specs.Effects.{boxOf, noSending}
-use Rattle.rules.specs.Rules.{heard, markedIn, marked}
+use Rattle.rules.specs.Rules.{heard, markedIn, ofItsRound, marked}
 use Rattle.state.specs.declared.Run.{Run}
 use Rattle.parlour.specs.Steps.{within, hereAt, applied}
 use Rattle.agreement.specs.Setting.{Book as AbstractBook, Contents as AbstractContents}
@@ -37,6 +38,10 @@ use Rattle.promise.proofs.Merges.{merged-as, told-as}
 use Rattle.promise.proofs.History.{beforeAsk, last-stays, before-stays, silent-done}
 use Rattle.promise.proofs.Likeness.{AskingLike, PhaseLike, TabletLike, Sent, Like, AsksLike, is-asking, same-list, no-more}
 use Rattle.promise.proofs.Following.{Follows, Standing, replaced, moves-tablet, tablet-here, tablet-is, asks-after, after-tablet}
+
+-- what is counted is of the tablet's own round
+round-is-own : (l : Letter) (x : Tablet) → ofItsRound l x ≡ true → l .round ≡ x .round
+round-is-own l x e = omega (arith, eqb-true, leb-true, ltb-true)
 
 module _ {first : AbstractBook parlour} {r : Run} {h : List Event} (now : Standing first r h) (slot d k : ℕ) (low : d < 8) where
   abbrev s : State parlour
@@ -176,7 +181,7 @@ module _ {first : AbstractBook parlour} {r : Run} {h : List Event} (now : Standi
   pub answer-follows : (l : Letter) → d ≡ l .to → Sent (r .listed) (s .network) (Answer l)
       → Follows first (applied slot d (hears (l .contents) (marked l (hereAt d r .tablet))) r .run) (event ∷ h)
   unfolding hereAt marked
-  answer-follows l at was = go (eqb (l .round) (own .round)) refl (own .phase) refl
+  answer-follows l at was = go (ofItsRound l own) refl (own .phase) refl
     where
       answer : Heard s (asContents (r .listed) (l .contents))
       answer = an-answer (record { box = l .from - 8; tablet = l .to; round = l .round; contents = asContents (r .listed) (l .contents) }) was
@@ -184,10 +189,10 @@ module _ {first : AbstractBook parlour} {r : Run} {h : List Event} (now : Standi
       marking : Phase → Tablet
       marking w = record { round = own .round; phase = markedIn (boxOf (l .from)) w }
 
-      go : (b : Bool) → eqb (l .round) (own .round) ≡ b → (phase : Phase) → own .phase ≡ phase
+      go : (b : Bool) → ofItsRound l own ≡ b → (phase : Phase) → own .phase ≡ phase
           → Follows first (applied slot d (hears (l .contents) (pick b (marking (own .phase)) own)) r .run) (event ∷ h)
       go false e phase i = hears-follows (l .contents) own refl answer
       go true e Idle i =
           let same : own ≡ record { round = own .round; phase = Idle } = λ j. record { round = own .round; phase = i j } in
           hears-follows (l .contents) (marking (own .phase)) (ap marking i ∙ sym same) answer
-      go true e (Asks a) i = counts-follows l a at (eqb-true (l .round) (own .round) e) i was (marking (own .phase)) (ap marking i)
+      go true e (Asks a) i = counts-follows l a at (round-is-own l own e) i was (marking (own .phase)) (ap marking i)

@@ -108,8 +108,11 @@ markedIn box (Asks a) =
     Asks (record { config = a .config; t = a .t; candidates = a .candidates; answered = union (a .answered) box; floor = a .floor })
 
 -- "if the answer's round is its own" (line 9: the responses carry the round of the requests)
+abbrev pub ofItsRound : Letter → Tablet → Bool
+ofItsRound l x = eqb (l .round) (x .round)
+
 unfoldable pub marked : Letter → Tablet → Tablet
-marked l x = pick (eqb (l .round) (x .round)) (record { round = x .round; phase = markedIn (boxOf (l .from)) (x .phase) }) x
+marked l x = pick (ofItsRound l x) (record { round = x .round; phase = markedIn (boxOf (l .from)) (x .phase) }) x
 
 -- Deliver, by what the slot holds: 7, then 3; "a commit is not answered"
 unfoldable pub deliver : Message → Here → Effect
@@ -138,6 +141,10 @@ allowed a h =
 -- "If configuration and T equal the saved" (line 10)
 unfoldable pub steady : Asking → Here → Bool
 steady a h = both (sameConfig (h .contents .v .config) (a .config)) (eqb (h .contents .t) (a .t))
+
+-- "if candidates equal the saved" (line 12)
+abbrev pub sameCandidates : Asking → Here → Bool
+sameCandidates a h = sameNotes (h .contents .candidates) (a .candidates)
 
 -- "set the floor, if unset" (line 11)
 abbrev pub orSet : Floor → Book → Floor
@@ -178,7 +185,7 @@ adoptOr tablet floor h =
 unfoldable pub advanceFrom : ℕ → Asking → Here → Effect
 advanceFrom tablet a h =
     pick (steady a h)
-    (pick (sameNotes (h .contents .candidates) (a .candidates)) (commit tablet (decided h) h) (adoptOr tablet (orSet (a .floor) (decided h)) h))
+    (pick (sameCandidates a h) (commit tablet (decided h) h) (adoptOr tablet (orSet (a .floor) (decided h)) h))
     (adoptOr tablet (a .floor) h)
 
 -- "5: Advance while idle", "6: Advance not allowed yet"

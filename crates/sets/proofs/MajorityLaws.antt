@@ -55,9 +55,7 @@ meet-or-apart w (suc k) m a b =
 pub majorities-meet : (w : ℕ → ℕ) (boxes a b : ℕ) → majority w boxes a ≡ true → majority w boxes b ≡ true → Meet 16 boxes a b
 unfolding majority
 majorities-meet w m a b h g =
-    let p = ltb-true (weigh w 16 m) (2 * weigh w 16 (shared m a)) h in
-    let q = ltb-true (weigh w 16 m) (2 * weigh w 16 (shared m b)) g in
-    ⊎-elim (λ s. s) (λ l. absurd (lt-irrefl 0 (omega arith))) (meet-or-apart w 16 m a b)
+    ⊎-elim (λ s. s) (λ l. absurd (lt-irrefl 0 (omega (arith, ltb-true)))) (meet-or-apart w 16 m a b)
 
 -- with no members there is never a majority
 pub no-members-no-majority : (w : ℕ → ℕ) (answered : ℕ) → majority w 0 answered ≡ true → ⊥
