@@ -2,4 +2,6 @@ pub mod Semilattice
 pub mod SetLaws
 pub mod BoundedLaws
 pub mod Parts
+pub mod CountLaws
 pub mod MajorityLaws
+pub mod Settled

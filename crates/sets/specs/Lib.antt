@@ -3,3 +3,4 @@ pub mod Choice
 pub mod Sets
 pub mod Bounded
 pub mod Majority
+pub mod Settled
