@@ -1,17 +1,17 @@
 -- Laws of notes, all of them: what a change of their representation must prove anew. Notes are a set, so they are joined, contained and compared
--- by the laws of sets over the width (`notes-joined`, `notes-decided`); the rest are the cases of the functions that take them apart.
+-- by the laws of sets over the width (`notes-joined`, `notes-decided`); a tablet's own notes stand at their places among all.
 use Prim.Native.Nat.{ℕ, _*_, _%_, _^_, _≤_, _<_}
 use mathlib.Core.Path.{_≡_, refl, sym, ap, _∙_}
 use native.Mathlib.Nat.{mod-eq-of-lt}
 use native.Mathlib.Omega.{arith}
 use lib.Pow.{shl-exact}
-use borrow.Author.Tests.{lt-ltb, le-ltb, eq-eqb, ne-eqb}
+use borrow.Author.Tests.{lt-ltb, le-ltb}
 use Rattle.sets.proofs.Semilattice.{Semilattice}
 use Rattle.sets.proofs.SetLaws.{sets-joined}
 use Rattle.sets.proofs.BoundedLaws.{pick-true, pick-false}
 use Rattle.sets.proofs.Parts.{of-one, Decides, numbers-decided, decided-of-one}
 use Rattle.books.specs.declared.Notes.{Notes}
-use Rattle.books.specs.Books.{notesPart, ownNotes, notesInside, joinNotes, sameNotes}
+use Rattle.books.specs.Books.{ownNotes, notesInside, joinNotes, sameNotes}
 
 -- ---- Joining, containment and equality
 
@@ -40,11 +40,3 @@ own-placed tablet own h l =
     ap (λ (s : ℕ). record { set = s })
     (shl-exact 8 (8 * tablet) 64 l (omega arith) ∙ ap (λ (n : ℕ). n * 2 ^ (8 * tablet)) (sym (mod-eq-of-lt l))
     ∙ pick-false 0 (own % 2 ^ 8 * 2 ^ (8 * tablet)) (le-ltb 7 tablet h))
-
--- ---- A part of the notes
-
-pub part-first : (notes : Notes) (k : ℕ) → k ≡ 0 → notes .set ≡ notesPart notes k
-part-first notes k e = pick-true (notes .set) 0 (eq-eqb k 0 e)
-
-pub part-beyond : (notes : Notes) (k : ℕ) → (k ≡ 0 → ⊥) → 0 ≡ notesPart notes k
-part-beyond notes k n = pick-false (notes .set) 0 (ne-eqb k 0 n)
