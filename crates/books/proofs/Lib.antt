@@ -1,5 +1,7 @@
 pub mod Turns
-pub mod BookLaws
 pub mod NoteLaws
+pub mod BookLaws
 pub mod ListedLaws
 pub mod QueriedLaws
+pub mod Statements
+pub mod Settled

@@ -4,14 +4,13 @@ use mathlib.Core.Bool.{Bool, true, false}
 use mathlib.Core.List.{List, map}
 use mathlib.Core.Path.{_≡_, sym, ap, _∙_}
 use mathlib.Core.Logic.{_⊎_, ⊎-elim}
-use native.Mathlib.Nat.{lt-irrefl, zero-add, mod-eq-of-lt}
+use native.Mathlib.Nat.{lt-irrefl, zero-add}
 use native.Mathlib.Numerals.{add-one}
 use native.Mathlib.Omega.{arith}
 use lib.ListN.{getD, take, drop, length, length-map, length-take, drop-of-length-le}
 use lib.Bits.{or-zero-r}
 use lib.Pow.{pow-mono, shl-exact}
 use lib.Seq.{drop-cons, getD-take}
-use borrow.Author.Tests.{lt-ltb, le-ltb}
 use Rattle.sets.specs.Choice.{pick, both}
 use Rattle.sets.specs.Sets.{inside, union, members}
 use Rattle.sets.specs.Majority.{majorityOf}
@@ -20,27 +19,12 @@ use Rattle.sets.proofs.SetLaws.{larger-not-inside}
 use Rattle.sets.proofs.BoundedLaws.{both-yes, pick-true, pick-false, each-rest, unions-rest, those-in, those-lt}
 use Rattle.books.specs.declared.Config.{Config}
 use Rattle.books.specs.declared.Listed.{Listed}
-use Rattle.books.specs.Books.{ownNotes, noConfig, sameConfig, membersOf, hasMajority}
+use Rattle.books.specs.Books.{noConfig, sameConfig, membersOf, hasMajority}
 use Rattle.books.specs.Queried.{firstPlace, placeOf, changeAt, joinedWith, everyMajority, askedBoxes}
 
 -- what owning an array of structs tells of its list: its length
 pub length-mapped : {X Y : Type 0} (f : X → Y) (l : List X) (n : ℕ) → length (map f l) ≡ n → length l ≡ n
 length-mapped f l n e = sym (length-map l f) ∙ e
-
--- ---- A tablet's own notes
-
-pub own-none : (tablet own : ℕ) → 7 < tablet → record { set = 0 } ≡ ownNotes tablet own
-unfolding ownNotes
-own-none tablet own h =
-    ap (λ (s : ℕ). record { set = s }) (pick-true 0 (own % 2 ^ 8 * 2 ^ (8 * tablet)) (lt-ltb 7 tablet h))
-
-pub own-placed : (tablet own : ℕ) → tablet ≤ 7 → own < 256
-    → record { set = own * 2 ^ (8 * tablet) % 18446744073709551616 } ≡ ownNotes tablet own
-unfolding ownNotes
-own-placed tablet own h l =
-    ap (λ (s : ℕ). record { set = s })
-    (shl-exact 8 (8 * tablet) 64 l (omega arith) ∙ ap (λ (n : ℕ). n * 2 ^ (8 * tablet)) (sym (mod-eq-of-lt l))
-    ∙ pick-false 0 (own % 2 ^ 8 * 2 ^ (8 * tablet)) (le-ltb 7 tablet h))
 
 -- ---- Looking for a place in a list
 

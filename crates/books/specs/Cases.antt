@@ -5,18 +5,22 @@ use mathlib.Core.Path.{_≡_, refl}
 use lib.ListN.{replicate, set}
 use Rattle.sets.specs.Bounded.{times, each, unions, those}
 use Rattle.sets.specs.Majority.{weigh, one, majority, majorityOf}
+use Rattle.books.specs.declared.Notes.{Notes}
 use Rattle.books.specs.declared.Config.{Config}
 use Rattle.books.specs.declared.Book.{Book}
 use Rattle.books.specs.declared.Listed.{Listed}
-use Rattle.books.specs.Books.{ownNotes, noConfig, membersOf, bookInside, joinBooks}
+use Rattle.books.specs.Books.{notesPart, noNotes, ownNotes, noConfig, membersOf, bookInside, joinNotes, joinBooks}
 use Rattle.books.specs.Queried.{firstPlace, placeOf, withChange, outside, joinedWith, everyMajority, askedBoxes}
 
--- a configuration, and a book
+-- own notes of tablets 0 and 1, a configuration, and a book
+abbrev noted : ℕ → ℕ → Notes
+noted by-0 by-1 = joinNotes (ownNotes 0 by-0) (ownNotes 1 by-1)
+
 abbrev config : ℕ → ℕ → Config
 config added removed = record { added = added; removed = removed }
 
-abbrev book : ℕ → ℕ → ℕ → Book
-book notes added removed = record { notes = record { set = notes }; config = config added removed }
+abbrev book : Notes → ℕ → ℕ → Book
+book notes added removed = record { notes = notes; config = config added removed }
 
 -- no change is listed; one is: box 0 goes; then a second: box 1 comes and box 0 goes
 abbrev none : Listed
@@ -30,19 +34,19 @@ comes = withChange goes (config 0x2 0x1)
 
 pub record Cases : Type 0 where
   -- "Tablet t owns 8t to 8t+7": the highest note of the highest tablet; a tablet over 7 owns none
-  highest-note : ownNotes 7 0x80 .set ≡ 2 ^ 63
-  no-tablet : ownNotes 8 0xff .set ≡ 0
+  highest-note : notesPart (ownNotes 7 0x80) 0 ≡ 2 ^ 63
+  no-tablet : ownNotes 8 0xff ≡ noNotes
   -- "Members are those added and not removed.": boxes 0, 1, 2 added and box 1 removed
   members-left : membersOf (config 0x7 0x2) ≡ 0x5
   -- "Once removed, a number never returns.": box 1 added again
   never-returns : membersOf (config 0x2 0x2) ≡ 0
   -- "One contains another when each of the three sets does": each set in its turn is too large, and all are contained
-  notes-larger : bookInside (book 0x3 0x7 0) (book 0x101 0x7 0x1) ≡ false
-  added-larger : bookInside (book 0x1 0xf 0) (book 0x101 0x7 0x1) ≡ false
-  removed-larger : bookInside (book 0x1 0x7 0x2) (book 0x101 0x7 0x1) ≡ false
-  contained : bookInside (book 0x1 0x7 0) (book 0x101 0x7 0x1) ≡ true
+  notes-larger : bookInside (book (noted 0x3 0) 0x7 0) (book (noted 0x1 0x1) 0x7 0x1) ≡ false
+  added-larger : bookInside (book (noted 0x1 0) 0xf 0) (book (noted 0x1 0x1) 0x7 0x1) ≡ false
+  removed-larger : bookInside (book (noted 0x1 0) 0x7 0x2) (book (noted 0x1 0x1) 0x7 0x1) ≡ false
+  contained : bookInside (book (noted 0x1 0) 0x7 0) (book (noted 0x1 0x1) 0x7 0x1) ≡ true
   -- "Joining is union, set by set."
-  joined : joinBooks (book 0x1 0x7 0) (book 0x100 0x8 0x1) ≡ book 0x101 0xf 0x1
+  joined : joinBooks (book (noted 0x1 0) 0x7 0) (book (noted 0 0x1) 0x8 0x1) ≡ book (noted 0x1 0x1) 0xf 0x1
   -- "is listed, behind the others": the two listed changes are at places 0 and 1, a third is new
   first-place : placeOf comes (config 0 0x1) ≡ 0
   second-place : placeOf comes (config 0x2 0x1) ≡ 1

@@ -1,3 +1,5 @@
 pub mod Books
 pub mod Queried
 pub mod Cases
+pub mod Statements
+pub mod Settled

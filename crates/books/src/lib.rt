@@ -2,13 +2,16 @@
 ghost use mathlib.Core.Path.{_≡_};
 ghost use mathlib.Core.Logic.{_⊎_};
 ghost use Prim.Native.Nat.{_<_, _≤_};
-ghost use Rattle.books.specs.Books.{notesPart, ownNotes, noNotes, noBook, membersOf, notesInside, configInside, bookInside, joinNotes, joinConfigs, joinBooks, sameNotes, sameConfig, hasMajority};
+ghost use Rattle.books.specs.Books.{notesPart, ownNotes, noBook, notesInside, configInside, bookInside, joinNotes, joinConfigs, joinBooks, sameNotes, sameConfig};
 ghost use Rattle.books.specs.Queried.{placeOf, outside, joinedWith, everyMajority, askedBoxes, stays};
 
-// Notes as a set: note n has weight 2^n. Books and candidates hold them as one value.
+// Notes as a set: note n has weight 2^n. Books and candidates hold them as one value, which only this crate takes apart.
 pub struct Notes {
     pub set: u64,
 }
+
+// How many parts of 64 notes there are.
+pub const NOTE_PARTS: usize = 1;
 
 pub struct Config {
     pub added: u16,
@@ -38,7 +41,7 @@ pub fn no_book() -> Book
     }
 }
 
-// A tablet's own own notes at their places among all; a tablet over 7 owns none.
+// A tablet's own notes at their places among all; a tablet over 7 owns none.
 pub fn own_notes(tablet: u8, own: u8) -> Notes
     ensures { λ r. ⌜ r ≡ ownNotes tablet own ⌝ }
 {
@@ -50,13 +53,20 @@ pub fn own_notes(tablet: u8, own: u8) -> Notes
     }
 }
 
+// Part k of the notes, 64 k to 64 k + 63, the lowest having weight 1; none beyond the last part.
+pub fn notes_part(notes: Notes, k: usize) -> u64
+    ensures { λ r. ⌜ r ≡ notesPart notes k ⌝ }
+{
+    if k == 0 { notes.set } else { 0 }
+}
+
 pub fn join_notes(a: Notes, b: Notes) -> Notes
     ensures { λ r. ⌜ r ≡ joinNotes a b ⌝ }
 {
     Notes { set: a.set | b.set }
 }
 
-pub fn notes_inside(a: Notes, b: Notes) -> bool
+fn notes_inside(a: Notes, b: Notes) -> bool
     ensures { λ r. ⌜ r ≡ notesInside a b ⌝ }
 {
     (a.set | b.set) == b.set
@@ -68,7 +78,7 @@ pub fn same_notes(a: Notes, b: Notes) -> bool
     a.set == b.set
 }
 
-pub fn join_configs(a: Config, b: Config) -> Config
+fn join_configs(a: Config, b: Config) -> Config
     ensures { λ r. ⌜ r ≡ joinConfigs a b ⌝ }
 {
     Config {

@@ -4,7 +4,7 @@ use books::Config;
 use books::Listed;
 use books::Notes;
 ghost use mathlib.Core.Path.{_≡_};
-ghost use Rattle.devices.specs.Contents.{merged, broughtBy};
+ghost use Rattle.devices.specs.Contents.{merged};
 ghost use Rattle.devices.specs.Effects.{numberOf, keptAfter, only, boxOf, addressee, letterTo, addressed, isEmpty, noSending, refuse};
 
 pub struct Contents {

@@ -3,7 +3,7 @@ use Prim.Native.Nat.{ℕ}
 use mathlib.Core.Bool.{Bool, true, false}
 use mathlib.Core.List.{List, [], _∷_}
 use mathlib.Core.Path.{_≡_, refl}
-use Rattle.sets.specs.Bounded.{times, each, unions, those}
+use Rattle.sets.specs.Bounded.{times, each, unions, howMany, those}
 use Rattle.sets.specs.Majority.{weigh, one, majority, majorityOf}
 use Rattle.books.specs.Books.{ownNotes}
 use Rattle.books.specs.Queried.{firstPlace, placeOf, withChange, outside, joinedWith, everyMajority, askedBoxes}
@@ -66,7 +66,7 @@ Hold (row ∷ rows) = Says row × Hold rows
 
 pub edges-hold : Hold edges
 unfolding after taken takenIf applied hereAt effectOf ruled ask askPair askWith begun marked deliver decided allowed steady commit adoptOr
-    advanceFrom advance refuse copies merged firstPlace placeOf withChange outside joinedWith everyMajority askedBoxes times each unions those weigh one majority
+    advanceFrom advance refuse copies merged firstPlace placeOf withChange outside joinedWith everyMajority askedBoxes times each unions howMany those weigh one majority
     majorityOf ownNotes fresh allDifferent properDesk proper all many laid bit odd bits num bitsOf word fieldsAllowed legal mark begins stepAt endAt
     kindAt readAt readFrom readSteps firstBoxes headOf readTape
 edges-hold = (refl, (refl, (refl, (refl, (refl, (refl, (refl, (refl, (refl, (refl, (refl, (refl, (refl, tt)))))))))))))

@@ -6,7 +6,7 @@ use mathlib.Core.Path.{_≡_, refl, sym, ap, _∙_}
 use native.Mathlib.Nat.{lt-irrefl}
 use native.Mathlib.Omega.{arith}
 use lib.ListN.{getD, set}
-use Rattle.sets.specs.Bounded.{times, each, unions, those}
+use Rattle.sets.specs.Bounded.{times, each, unions, howMany, those}
 use Rattle.sets.specs.Majority.{weigh, one, majority, majorityOf}
 use Rattle.books.specs.Books.{ownNotes, noConfig}
 use Rattle.books.specs.Queried.{firstPlace, placeOf, withChange, outside, joinedWith, everyMajority, askedBoxes}
@@ -95,7 +95,7 @@ record Facts : Type 0 where
 
 facts : Facts
 unfolding kind after taken takenIf applied hereAt effectOf ruled ask askPair askWith begun marked deliver decided allowed steady commit adoptOr
-    advanceFrom advance refuse copies merged firstPlace placeOf withChange outside joinedWith everyMajority askedBoxes times each unions those weigh one majority
+    advanceFrom advance refuse copies merged firstPlace placeOf withChange outside joinedWith everyMajority askedBoxes times each unions howMany those weigh one majority
     majorityOf ownNotes fresh allDifferent properDesk proper all many laid
 facts =
     record {

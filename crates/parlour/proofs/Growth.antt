@@ -11,7 +11,8 @@ use Rattle.books.specs.declared.Config.{Config}
 use Rattle.books.specs.declared.Listed.{Listed}
 use Rattle.books.specs.Books.{notesInside, configInside, bookInside, joinNotes, joinConfigs, joinBooks}
 use Rattle.books.specs.Queried.{changeAt, outside}
-use Rattle.books.proofs.BookLaws.{notes-joined, configs-joined, books-joined, book-parts-inside}
+use Rattle.books.proofs.NoteLaws.{notes-joined}
+use Rattle.books.proofs.BookLaws.{configs-joined, books-joined, book-parts-inside}
 use Rattle.books.proofs.QueriedLaws.{outside-has}
 use Rattle.devices.specs.declared.Contents.{Contents}
 use Rattle.devices.specs.declared.Message.{Message}

@@ -12,7 +12,8 @@ use Rattle.sets.proofs.BoundedLaws.{both-left, both-right, pick-true}
 use Rattle.books.specs.declared.Config.{Config}
 use Rattle.books.specs.declared.Book.{Book}
 use Rattle.books.specs.Queried.{everyMajority}
-use Rattle.books.proofs.BookLaws.{notes-decided, configs-decided}
+use Rattle.books.proofs.NoteLaws.{notes-decided}
+use Rattle.books.proofs.BookLaws.{configs-decided}
 use Rattle.devices.specs.declared.Asking.{Asking}
 use Rattle.devices.specs.declared.Tablet.{Tablet}
 use Rattle.devices.specs.declared.Phase.{Phase}

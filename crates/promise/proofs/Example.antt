@@ -4,7 +4,7 @@
 use mathlib.Core.Path.{_≡_, refl}
 use mathlib.Core.Logic.{inl}
 use mathlib.Core.List.{List, [], _∷_}
-use Rattle.sets.specs.Bounded.{times, each, unions, those}
+use Rattle.sets.specs.Bounded.{times, each, unions, howMany, those}
 use Rattle.sets.specs.Majority.{weigh, one, majority, majorityOf}
 use Rattle.books.specs.declared.Book.{Book}
 use Rattle.books.specs.Books.{ownNotes, noConfig}
@@ -49,7 +49,7 @@ record Examples : Type 0 where
 
 examples : Examples
 unfolding answers history after taken takenIf applied hereAt effectOf ruled ask askPair askWith begun marked deliver decided allowed steady
-    commit adoptOr advanceFrom advance refuse copies merged placeOf firstPlace outside joinedWith everyMajority askedBoxes times each unions those
+    commit adoptOr advanceFrom advance refuse copies merged placeOf firstPlace outside joinedWith everyMajority askedBoxes times each unions howMany those
     weigh one majority majorityOf ownNotes fresh allDifferent properDesk proper all many laid
 examples =
     record {

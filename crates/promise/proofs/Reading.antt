@@ -14,7 +14,8 @@ use Rattle.books.specs.declared.Book.{Book}
 use Rattle.books.specs.declared.Listed.{Listed}
 use Rattle.books.specs.Books.{configInside, joinNotes, joinConfigs, notesInside, bookInside, hasMajority}
 use Rattle.books.specs.Queried.{changeAt}
-use Rattle.books.proofs.BookLaws.{notes-joined, configs-joined, majorities-share, book-parts-inside, parts-book-inside}
+use Rattle.books.proofs.NoteLaws.{notes-joined}
+use Rattle.books.proofs.BookLaws.{configs-joined, majorities-share, book-parts-inside, parts-book-inside}
 use Rattle.devices.specs.declared.Contents.{Contents}
 use Rattle.devices.specs.declared.Floor.{Floor}
 use Rattle.devices.specs.declared.Floor.the-variants.{Unset, Set}

@@ -8,7 +8,7 @@ use lib.ListN.{set}
 use lib.Pow.{shl-exact}
 use borrow.Author.Tests.{lt-ltb, le-ltb, eq-eqb, ne-eqb}
 use Rattle.sets.specs.Choice.{pick}
-use Rattle.sets.specs.Majority.{weigh, one}
+use Rattle.sets.specs.Bounded.{howMany}
 use Rattle.books.specs.declared.Config.{Config}
 use Rattle.books.specs.declared.Book.{Book}
 use Rattle.books.specs.declared.Listed.{Listed}
@@ -47,14 +47,14 @@ module _ (tablet : ℕ) (outcome : Outcome) (floor : Floor) (listed : Listed) (c
   begun-9 l p = chosen _ _ (lt-ltb _ _ l) p
 
   pub begun-10 : {boxes need : ℕ} → h .tablet .round ≤ 1022 → boxes ≡ askedBoxes listed (c .v .config) (c .t)
-      → need ≡ weigh one 16 boxes → h .free < need → e ≡ refuse 10 h → e ≡ begun tablet outcome floor listed c h
+      → need ≡ howMany 16 boxes → h .free < need → e ≡ refuse 10 h → e ≡ begun tablet outcome floor listed c h
   unfolding begun
   begun-10 l b w f p =
-      let g : h .free < weigh one 16 (askedBoxes listed (c .v .config) (c .t)) = rw (← b, ← w) f in
+      let g : h .free < howMany 16 (askedBoxes listed (c .v .config) (c .t)) = rw (← b, ← w) f in
       passed _ _ (le-ltb _ _ l) (chosen _ _ (lt-ltb _ _ g) p)
 
   pub begun-0 : {boxes need to : ℕ} → h .tablet .round ≤ 1022 → boxes ≡ askedBoxes listed (c .v .config) (c .t)
-      → need ≡ weigh one 16 boxes → need ≤ h .free → to ≡ boxes * 2 ^ 8
+      → need ≡ howMany 16 boxes → need ≤ h .free → to ≡ boxes * 2 ^ 8
       → e ≡ record {
         outcome = outcome;
         contents = c;
@@ -67,7 +67,7 @@ module _ (tablet : ℕ) (outcome : Outcome) (floor : Floor) (listed : Listed) (c
       → e ≡ begun tablet outcome floor listed c h
   unfolding begun
   begun-0 l b w f t p =
-      let g : weigh one 16 (askedBoxes listed (c .v .config) (c .t)) ≤ h .free = rw (← b, ← w) f in
+      let g : howMany 16 (askedBoxes listed (c .v .config) (c .t)) ≤ h .free = rw (← b, ← w) f in
       passed _ _ (le-ltb _ _ l) (passed _ _ (le-ltb _ _ g) (rw (p, t, b) refl))
 
 pub shifted-8 : (boxes : ℕ) → boxes < 65536 → boxes * 2 ^ 8 % 4294967296 ≡ boxes * 2 ^ 8

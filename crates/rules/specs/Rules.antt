@@ -5,7 +5,7 @@ use mathlib.Core.Bool.{Bool, true, false}
 use lib.Dec.{ltb, leb, eqb}
 use Rattle.sets.specs.Choice.{pick, both}
 use Rattle.sets.specs.Sets.{union}
-use Rattle.sets.specs.Majority.{weigh, one}
+use Rattle.sets.specs.Bounded.{howMany}
 use Rattle.books.specs.declared.Config.{Config}
 use Rattle.books.specs.declared.Book.{Book}
 use Rattle.books.specs.declared.Listed.{Listed}
@@ -47,7 +47,7 @@ requests tablet round c boxes =
 abbrev pub begunWith : ℕ → Outcome → Floor → Listed → Contents → ℕ → Here → Effect
 begunWith tablet outcome floor listed c boxes h =
     pick (ltb 1022 (h .tablet .round)) (refuse 9 h)
-    (pick (ltb (h .free) (weigh one 16 boxes)) (refuse 10 h)
+    (pick (ltb (h .free) (howMany 16 boxes)) (refuse 10 h)
     (record {
       outcome = outcome;
       contents = c;

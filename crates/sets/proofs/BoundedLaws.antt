@@ -13,7 +13,7 @@ use borrow.Author.Tests.{ltb-true, ltb-false}
 use Rattle.sets.specs.Choice.{pick, both}
 use Rattle.sets.specs.Sets.{digit, union}
 use Rattle.sets.specs.Bounded.{times, each, unions, those}
-use Rattle.sets.proofs.SetLaws.{digit-low, digit-lt, digit-high, digit-union, in-union}
+use Rattle.sets.proofs.SetLaws.{digit-low, digit-high}
 
 eq-zero : {n : ℕ} → n ≤ 0 → n ≡ 0
 eq-zero l = omega arith
@@ -118,33 +118,6 @@ unions-rest f j (suc k) l h =
     unions-rest f j k (le-of-suc-le-suc m) (λ n a b. h n a (omega arith)) ∙ sym (or-zero-r (unions k f))
     ∙ ap (union (unions k f)) (sym (h k (le-of-suc-le-suc m) (omega arith))))
     (eq-or-lt-of-le l)
-
--- one of the sets f 0 .. f (k - 1) that has n
-pub record OneHas (k : ℕ) (f : ℕ → ℕ) (n : ℕ) : Type 0 where
-  pub which : ℕ
-  pub below : which < k
-  pub there : digit n (f which) ≡ 1
-
--- what is in a union is in one of its sets
-pub in-unions : (k : ℕ) (f : ℕ → ℕ) (n : ℕ) → digit n (unions k f) ≡ 1 → OneHas k f n
-unfolding unions
-in-unions zero f n h = absurd (lt-irrefl 0 (omega (arith, h, digit-high 0 n 0 (omega arith) (omega arith))))
-in-unions (suc k) f n h =
-    ⊎-elim (λ l. more (in-unions k f n l)) (λ r. record { which = k; below = omega arith; there = r })
-    (in-union n (unions k f) (f k) h)
-  where
-    more : OneHas k f n → OneHas (suc k) f n
-    more o = record { which = o .which; below = omega (arith, o .below); there = o .there }
-
--- what is in one of its sets is in a union
-pub unions-has : (k : ℕ) (f : ℕ → ℕ) (n i : ℕ) → i < k → digit n (f i) ≡ 1 → digit n (unions k f) ≡ 1
-unfolding unions
-unions-has zero f n i l h = absurd (lt-irrefl 0 (omega arith))
-unions-has (suc k) f n i l h =
-    let lt = digit-lt n (union (unions k f) (f k)) in
-    ⊎-elim (λ e. omega (arith, digit-union n (unions k f) (f k), ap (λ (x : ℕ). digit n (f x)) (sym e) ∙ h))
-    (λ m. omega (arith, digit-union n (unions k f) (f k), unions-has k f n i m h))
-    (eq-or-lt-of-le (le-of-suc-le-suc l))
 
 -- ---- The set of those of which a test holds
 

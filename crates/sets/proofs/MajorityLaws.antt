@@ -1,18 +1,15 @@
 -- Laws of weights and majorities. The main one: two majorities of one configuration share a member, by any weights (`majorities-meet`).
-use Prim.Native.Nat.{ℕ, zero, suc, _+_, _*_, _%_, _^_, _<_, _≤_, min}
-use mathlib.Core.Bool.{true}
-use mathlib.Core.Path.{_≡_, refl, sym, ap, ap₂, _∙_}
+use Prim.Native.Nat.{ℕ, zero, suc, _+_, _*_, _<_, _≤_, min}
+use mathlib.Core.Bool.{Bool, true, false}
+use mathlib.Core.Path.{_≡_, refl, sym, ap}
 use mathlib.Core.Logic.{_⊎_, inl, inr, ⊎-elim}
-use native.Mathlib.Nat.{mul-le-mul-right, lt-irrefl, mod-lt, le-of-suc-le-suc}
-use native.Mathlib.Numerals.{one-add}
+use native.Mathlib.Nat.{mul-le-mul-right, lt-irrefl}
 use native.Mathlib.Omega.{arith}
-use lib.Arith.{lt-one}
-use lib.Count.{ones, onesIn, ones-cat}
-use lib.Pow.{pow-pos, recompose}
+use lib.Dec.{ltb}
 use borrow.Author.Tests.{ltb-true}
 use Rattle.sets.specs.Sets.{digit, shared}
-use Rattle.sets.specs.Majority.{one, weigh, majority}
-use Rattle.sets.proofs.SetLaws.{digit-lt, digit-low, digit-high, digit-shared}
+use Rattle.sets.specs.Majority.{weigh, majority}
+use Rattle.sets.proofs.SetLaws.{digit-lt, digit-high, digit-shared, shared-again}
 
 -- ---- Two majorities meet
 
@@ -58,40 +55,16 @@ majorities-meet w m a b h g =
     ⊎-elim (λ s. s) (λ l. absurd (lt-irrefl 0 (omega (arith, ltb-true)))) (meet-or-apart w 16 m a b)
 
 -- with no members there is never a majority
-pub no-members-no-majority : (w : ℕ → ℕ) (answered : ℕ) → majority w 0 answered ≡ true → ⊥
-no-members-no-majority w answered h =
-    let m = majorities-meet w 0 answered answered h h in
-    lt-irrefl 0 (omega (arith, m .member, digit-high 0 (m .box) 0 (omega arith) (omega arith)))
+pub no-members-no-majority : (w : ℕ → ℕ) (answered : ℕ) → majority w 0 answered ≡ false
+no-members-no-majority w answered = go (majority w 0 answered) refl
+  where
+    go : (t : Bool) → majority w 0 answered ≡ t → majority w 0 answered ≡ false
+    go true h =
+        let m = majorities-meet w 0 answered answered h h in
+        absurd (lt-irrefl 0 (omega (arith, m .member, digit-high 0 (m .box) 0 (omega arith) (omega arith))))
+    go false h = h
 
--- ---- What a set weighs
-
-weigh-low : (w : ℕ → ℕ) (j k a : ℕ) → j ≤ k → weigh w j (a % 2 ^ k) ≡ weigh w j a
-unfolding weigh
-weigh-low w zero k a h = refl
-weigh-low w (suc j) k a h = ap₂ (λ (x y : ℕ). x + y * w j) (weigh-low w j k a (omega arith)) (digit-low j k a h)
-
-ones-digit : (x : ℕ) → x < 2 → ones x ≡ x
-unfolding ones onesIn
-ones-digit zero h = refl
-ones-digit (suc zero) h = refl
-ones-digit (suc (suc x)) h = absurd (lt-irrefl 0 (omega arith))
-
--- with one for each, a set weighs as many as it has: what `count_ones` gives
-pub ones-weigh : (k a : ℕ) → a < 2 ^ k → ones a ≡ weigh one k a
-unfolding weigh one
-ones-weigh zero a h = ap ones (lt-one h) ∙ ones-digit 0 (omega arith)
-ones-weigh (suc k) a h =
-    let e : digit k a * 2 ^ k + a % 2 ^ k ≡ a = recompose 1 k (rw one-add h) in
-    let l : a % 2 ^ k < 2 ^ k = mod-lt a (pow-pos k) in
-    ap ones (sym e) ∙ ones-cat k (digit k a) (a % 2 ^ k) l
-    ∙ omega (arith, ones-digit (digit k a) (digit-lt k a), ones-weigh k (a % 2 ^ k) l ∙ weigh-low one k k a (omega arith))
-
--- a set below 2^k weighs at most k times the heaviest
-pub weigh-le : (w : ℕ → ℕ) (c : ℕ) → ((n : ℕ) → w n ≤ c) → (k a : ℕ) → weigh w k a ≤ c * k
-unfolding weigh
-weigh-le w c h zero a = omega arith
-weigh-le w c h (suc k) a = omega (arith, weigh-le w c h k a, mul-le-mul-right (w k) (le-of-suc-le-suc (digit-lt k a)), h k)
-
-pub one-each : (n : ℕ) → one n ≤ 1
-unfolding one
-one-each n = omega arith
+-- boxes that answered and are no members count for nothing
+pub members-only : (w : ℕ → ℕ) (boxes answered : ℕ) → majority w boxes answered ≡ majority w boxes (shared boxes answered)
+unfolding majority
+members-only w boxes answered = rw (shared-again boxes answered)

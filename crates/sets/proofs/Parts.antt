@@ -3,7 +3,6 @@
 use Prim.Native.Nat.{ℕ}
 use mathlib.Core.Bool.{Bool, true, false}
 use mathlib.Core.Path.{_≡_, refl, sym, ap, ap₂, _∙_}
-use mathlib.Core.Logic.{_⊎_, inl, inr}
 use native.Mathlib.Omega.{arith}
 use lib.Dec.{eqb}
 use borrow.Author.Tests.{eqb-true, eq-eqb}
@@ -85,13 +84,6 @@ decided-of-two {A} {B} {sameA} {sameB} d e =
     }
 
 module _ {A : Type 0} {same : A → A → Bool} (d : Decides same) where
-  pub equal-or-not : (a b : A) → (a ≡ b) ⊎ (a ≡ b → ⊥)
-  equal-or-not a b = go (same a b) refl
-    where
-      go : (t : Bool) → same a b ≡ t → (a ≡ b) ⊎ (a ≡ b → ⊥)
-      go true h = inl (d .same-eq a b h)
-      go false h = inr (λ e. true-not-false (sym (d .eq-same a b e) ∙ h))
-
   pub ne-same : (a b : A) → (a ≡ b → ⊥) → same a b ≡ false
   ne-same a b n = go (same a b) refl
     where

@@ -1,5 +1,5 @@
 -- Joining and containment, once for all that is joined set by set: sets, notes, configurations, books.
--- A semilattice is given by five laws; that containment is a partial order, and the join its least upper bound, follows here.
+-- A semilattice is given by five laws; that containment is reflexive and transitive, and a join contains its sides, follows here.
 use mathlib.Core.Bool.{Bool, true}
 use mathlib.Core.Path.{_≡_, sym, ap, _∙_}
 
@@ -10,14 +10,11 @@ pub record Semilattice {A : Type 0} (inside : A → A → Bool) (join : A → A 
   pub inside-eq : (a b : A) → inside a b ≡ true → join a b ≡ b
   pub eq-inside : (a b : A) → join a b ≡ b → inside a b ≡ true
 
--- ---- Containment is a partial order, and the join its least upper bound
+-- ---- Containment is reflexive and transitive, and a join contains its sides
 
 module _ {A : Type 0} {inside : A → A → Bool} {join : A → A → A} (l : Semilattice inside join) where
   pub contained-refl : (a : A) → inside a a ≡ true
   contained-refl a = l .eq-inside a a (l .idem a)
-
-  pub contained-antisym : (a b : A) → inside a b ≡ true → inside b a ≡ true → a ≡ b
-  contained-antisym a b h k = sym (l .inside-eq b a k) ∙ l .comm b a ∙ l .inside-eq a b h
 
   pub contained-trans : (a b c : A) → inside a b ≡ true → inside b c ≡ true → inside a c ≡ true
   contained-trans a b c h k =
@@ -29,7 +26,3 @@ module _ {A : Type 0} {inside : A → A → Bool} {join : A → A → A} (l : Se
 
   pub contained-right : (a b : A) → inside b (join a b) ≡ true
   contained-right a b = ap (inside b) (l .comm a b) ∙ contained-left b a
-
-  pub contained-least : (a b c : A) → inside a c ≡ true → inside b c ≡ true → inside (join a b) c ≡ true
-  contained-least a b c h k =
-      l .eq-inside (join a b) c (l .assoc a b c ∙ ap (join a) (l .inside-eq b c k) ∙ l .inside-eq a c h)

@@ -1,5 +1,5 @@
 -- Laws of sets of small numbers, proved once for any width by the digits of the numbers that they are:
--- containment is a partial order, union is its least upper bound, and what is in a union, in what two sets share, and among the members.
+-- what is in a union, in what two sets share, and among the members; containment and union are a semilattice (`sets-joined`).
 use Prim.Native.Nat.{ℕ, zero, suc, _+_, _-_, _/_, _%_, _^_, _<_, _≤_, min, max}
 use mathlib.Core.Bool.{Bool, true, false}
 use mathlib.Core.Path.{_≡_, refl, sym, ap, ap₂, _∙_}
@@ -12,7 +12,7 @@ use lib.Pow.{shr-shr, pow-mono, field, mod-mod-pow}
 use lib.Bits.{bitAnd, bitOr, or-step, and-step, or-shr, and-shr, and-le-l, and-le-r, or-comm, or-self, or-lt, or-add-and}
 use borrow.Author.Tests.{eqb-true, eq-eqb}
 use Rattle.sets.specs.Sets.{digit, has, union, shared, members, inside}
-use Rattle.sets.proofs.Semilattice.{Semilattice, contained-refl, contained-antisym, contained-trans, contained-left, contained-right, contained-least}
+use Rattle.sets.proofs.Semilattice.{Semilattice}
 
 -- ---- Membership
 
@@ -84,7 +84,7 @@ same-go (suc k) a b ha hb h =
 pub same-digits : (a b : ℕ) → ((n : ℕ) → digit n a ≡ digit n b) → a ≡ b
 same-digits a b h = same-go (a + b) a b (omega arith) (omega arith) h
 
--- ---- Union: associative here; commutative and idempotent are `or-comm` and `or-self`
+-- ---- Union, associative here; commutative and idempotent are `or-comm` and `or-self`; and what two sets share
 
 max-max : (x y z : ℕ) → max (max x y) z ≡ max x (max y z)
 max-max x y z = omega arith
@@ -94,11 +94,18 @@ union-assoc a b c =
     same-digits (union (union a b) c) (union a (union b c))
     (λ n. simp (digit-union) (max-max (digit n a) (digit n b) (digit n c)))
 
--- a union is as wide as its sides: cited at 8, 16 and 64
+min-min : (x y : ℕ) → min x (min x y) ≡ min x y
+min-min x y = omega arith
+
+-- what a set shares with another, it shares with what they share
+pub shared-again : (a b : ℕ) → shared a (shared a b) ≡ shared a b
+shared-again a b = same-digits (shared a (shared a b)) (shared a b) (λ n. simp (digit-shared) (min-min (digit n a) (digit n b)))
+
+-- a union is as wide as its sides
 pub union-lt : (k a b : ℕ) → a < 2 ^ k → b < 2 ^ k → union a b < 2 ^ k
 union-lt = or-lt
 
--- ---- Containment is a partial order, and union its least upper bound
+-- ---- Containment, with union: a semilattice, so that the laws of Semilattice hold of sets
 
 pub inside-eq : (a b : ℕ) → inside a b ≡ true → union a b ≡ b
 inside-eq a b h = eqb-true (union a b) b h
@@ -108,28 +115,6 @@ eq-inside a b e = eq-eqb (union a b) b e
 
 pub sets-joined : Semilattice inside union
 sets-joined = record { assoc = union-assoc; comm = or-comm; idem = or-self; inside-eq = inside-eq; eq-inside = eq-inside }
-
-pub inside-refl : (a : ℕ) → inside a a ≡ true
-inside-refl = contained-refl sets-joined
-
-pub inside-antisym : (a b : ℕ) → inside a b ≡ true → inside b a ≡ true → a ≡ b
-inside-antisym = contained-antisym sets-joined
-
-pub inside-trans : (a b c : ℕ) → inside a b ≡ true → inside b c ≡ true → inside a c ≡ true
-inside-trans = contained-trans sets-joined
-
-pub inside-left : (a b : ℕ) → inside a (union a b) ≡ true
-inside-left = contained-left sets-joined
-
-pub inside-right : (a b : ℕ) → inside b (union a b) ≡ true
-inside-right = contained-right sets-joined
-
-pub inside-least : (a b c : ℕ) → inside a c ≡ true → inside b c ≡ true → inside (union a b) c ≡ true
-inside-least = contained-least sets-joined
-
--- what is in a set is in each that contains it, and the other way
-pub inside-digit : (n a b : ℕ) → inside a b ≡ true → digit n a ≤ digit n b
-inside-digit n a b h = omega (arith, sym (digit-union n a b) ∙ ap (digit n) (inside-eq a b h))
 
 pub digit-inside : (a b : ℕ) → ((n : ℕ) → digit n a ≤ digit n b) → inside a b ≡ true
 digit-inside a b h = eq-inside a b (same-digits (union a b) b (λ n. digit-union n a b ∙ max-eq-right (h n)))
@@ -162,14 +147,6 @@ has-union n a b h = ⊎-elim (λ l. inl (digit-has n a l)) (λ r. inr (digit-has
 
 pub union-has : (n a b : ℕ) → has n a ≡ true → has n (union a b) ≡ true
 union-has n a b h = digit-has n (union a b) (union-has-left n a b (has-digit n a h))
-
--- a number among the members is added and not removed, and the other way
-pub in-members : (n added removed : ℕ) → digit n (members added removed) ≡ 1 → (digit n added ≡ 1) × (digit n removed ≡ 0)
-in-members n a b h =
-    (omega (arith, digit-members n a b, digit-lt n a), omega (arith, digit-members n a b, digit-lt n a))
-
-pub members-has : (n added removed : ℕ) → digit n added ≡ 1 → digit n removed ≡ 0 → digit n (members added removed) ≡ 1
-members-has n a b h k = omega (arith, digit-members n a b)
 
 -- ---- A set that is contained in another is no larger number
 

@@ -4,3 +4,4 @@ pub mod Sets
 pub mod Bounded
 pub mod Majority
 pub mod Cases
+pub mod Settled

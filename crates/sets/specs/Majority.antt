@@ -1,10 +1,10 @@
--- The majority (01, Books, boxes and containment), over a weight for each box.
+-- The majority (01, Books, boxes and containment), over a weight for each box. Where each weighs one, a set weighs what it counts (`one-counts`).
 use Prim.Native.Nat.{ℕ, zero, suc, _+_, _*_}
 use mathlib.Core.Bool.{Bool}
 use lib.Dec.{ltb}
 use Rattle.sets.specs.Sets.{digit, shared, members}
 
--- each box counts once
+-- each box weighs one
 unfoldable pub one : ℕ → ℕ
 one box = 1
 

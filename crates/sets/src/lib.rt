@@ -1,7 +1,8 @@
 // Sets of boxes as the bits of a number, and the majority of a configuration.
 ghost use mathlib.Core.Path.{_≡_};
 ghost use Rattle.sets.specs.Sets.{members};
-ghost use Rattle.sets.specs.Majority.{weigh, one, majorityOf};
+ghost use Rattle.sets.specs.Bounded.{howMany};
+ghost use Rattle.sets.specs.Majority.{majorityOf};
 
 // The boxes added and not removed.
 pub fn members_of(added: u16, removed: u16) -> u16
@@ -12,7 +13,7 @@ pub fn members_of(added: u16, removed: u16) -> u16
 
 // How many boxes a set has.
 pub fn count_boxes(boxes: u16) -> u32
-    ensures { λ r. ⌜ r ≡ weigh one 16 boxes ⌝ }
+    ensures { λ r. ⌜ r ≡ howMany 16 boxes ⌝ }
 {
     u32::count_ones(boxes as u32)
 }

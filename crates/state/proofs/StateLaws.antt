@@ -87,9 +87,6 @@ lt-names n t h = eq-eqb (t / 2 ^ n) 0 (div-eq-of-lt h)
 
 -- everything but the slots
 module _ (listed : Listed) (devices : List Contents) (tablets : List Tablet) where
-  abbrev fewEnough : Bool
-  fewEnough = leb (listed .count) 6
-
   abbrev contentsProper : Bool
   contentsProper = all (properContents (listed .count)) devices
 

@@ -1,2 +1,3 @@
 pub mod Slots
 pub mod State
+pub mod Settled

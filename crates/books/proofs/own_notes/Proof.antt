@@ -1,5 +1,5 @@
 use borrow.Author.Needs.{needs}
-use Rattle.books.proofs.Turns.{own-none, own-placed}
+use Rattle.books.proofs.NoteLaws.{own-none, own-placed}
 use Rattle.books.proofs.own_notes.Statement.{statement}
 use Rattle.books.proofs.own_notes.Tie as tie
 

@@ -1,8 +1,8 @@
 use borrow.Author.Needs.{needs}
 use native.Mathlib.Omega.{arith}
 use Rattle.sets.specs.Sets.{shared}
-use Rattle.sets.specs.Majority.{one, majority, majorityOf}
-use Rattle.sets.proofs.MajorityLaws.{weigh-le, one-each}
+use Rattle.sets.specs.Majority.{majority, majorityOf}
+use Rattle.sets.proofs.CountLaws.{count-le, one-counts}
 use Rattle.sets.proofs.majority.Statement.{statement}
 use Rattle.sets.proofs.majority.Tie as tie
 
@@ -17,11 +17,11 @@ count-boxes-requires-2 c κs = search needs
 
 mul-result : tie.Need-mul-result
 mul-result c =
-    omega (arith, c .count-boxes2 .ensures, weigh-le one 1 one-each 16 (shared (c .before .before .members-of .result) (c .before .before .before .args .answered)))
+    omega (arith, c .count-boxes2 .ensures, count-le 16 (shared (c .before .before .members-of .result) (c .before .before .before .args .answered)))
 
 returns : tie.Need-returns
 unfolding majorityOf majority
-returns c = simp (c .before .count-boxes .ensures, c .count-boxes2 .ensures, c .before .before .members-of .ensures)
+returns c = simp (one-counts, c .before .count-boxes .ensures, c .count-boxes2 .ensures, c .before .before .members-of .ensures)
 
 pub majority-spec : {M : Type 1} → statement M
 majority-spec =
