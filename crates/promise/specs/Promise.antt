@@ -10,16 +10,16 @@ use mathlib.Core.Path.{_≡_}
 use mathlib.Core.Logic.{_⊎_}
 use mathlib.Core.List.{List, [], _∷_}
 use mathlib.Core.Option.{Option, none, some}
-use lib.Dec.{eqb}
 use Rattle.sets.specs.Choice.{pick, both}
 use Rattle.sets.specs.Sets.{digit}
 use Rattle.books.specs.declared.Config.{Config}
 use Rattle.books.specs.declared.Book.{Book}
-use Rattle.books.specs.Books.{owner, ownNotes, noBook, bookInside}
+use Rattle.books.specs.Books.{owner, ownNotes, bookInside}
 use Rattle.devices.specs.declared.Step.{Step}
-use Rattle.devices.specs.declared.Step.the-variants.{Ask, Advance, Deliver, Lose, Repeat, Stop}
+use Rattle.devices.specs.declared.Step.the-variants.{Ask, Advance}
 use Rattle.devices.specs.declared.Outcome.{Outcome}
 use Rattle.devices.specs.declared.Outcome.the-variants.{Done, Round, Committed, Adopted, Refused}
+use Rattle.rules.specs.Table.{row, namesTablet}
 use Rattle.state.specs.declared.Run.{Run}
 use Rattle.state.specs.State.{fresh}
 use Rattle.parlour.specs.Steps.{taken}
@@ -84,21 +84,11 @@ pub record AcceptedAsk (h : List Event) : Type 0 where
 
 -- the step is an ask of the tablet
 abbrev pub isAskOf : ℕ → Step → Bool
-isAskOf t (Ask tablet own pair) = eqb tablet t
-isAskOf t (Advance tablet) = false
-isAskOf t (Deliver slot) = false
-isAskOf t (Lose slot) = false
-isAskOf t (Repeat slot) = false
-isAskOf t (Stop device) = false
+isAskOf t step = both (row step .asks) (namesTablet t (row step .names))
 
 -- what a step brings: an ask its tablet's own notes and its pair, any other step nothing
 abbrev pub brought : Step → Book
-brought (Ask tablet own pair) = record { notes = ownNotes tablet own; config = pair }
-brought (Advance tablet) = noBook
-brought (Deliver slot) = noBook
-brought (Lose slot) = noBook
-brought (Repeat slot) = noBook
-brought (Stop device) = noBook
+brought step = row step .brings
 
 -- the event is an accepted ask of the tablet
 abbrev pub askedBy : ℕ → Event → Bool
