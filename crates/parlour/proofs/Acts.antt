@@ -1,7 +1,8 @@
--- What the rules let a step do: a refusal, or one of ten effects, each with the tests that led to it (`Acts`, `acts`, and of a run `acts-for`).
+-- What the rules let a step do: a refusal, or one of eight effects, each with the tests that led to it (`Acts`, `acts`, and of a run `acts-for`).
 -- Who proves something of all steps goes by these cases, and need not unfold the rules.
 use Prim.Native.Nat.{ℕ, _+_, _-_, _^_, _<_, _≤_}
 use mathlib.Core.Bool.{Bool, true, false, true≢false}
+use mathlib.Core.Logic.{_⊎_, inl, inr}
 use mathlib.Core.Path.{_≡_, refl, sym, _∙_}
 use native.Mathlib.Omega.{arith}
 use lib.Dec.{ltb}
@@ -31,7 +32,8 @@ use Rattle.devices.specs.declared.Step.{Step}
 use Rattle.devices.specs.declared.Step.the-variants.{Ask, Advance, Deliver, Lose, Repeat, Stop}
 use Rattle.devices.specs.Contents.{merged, broughtBy}
 use Rattle.devices.specs.Effects.{only, addressee, isEmpty, noSending, refuse}
-use Rattle.rules.specs.Rules.{asking, requests, begun, askWith, askPair, askIn, ask, heard, answerTo, marked, deliver, decided, allowed, steady, sameCandidates, orSet, handsBack, commit, floorInside, adoptOr, advanceFrom, advanceIn, advance, leaves, lose, again, stop, inRange, ruled, effectOf}
+use Rattle.rules.specs.Table.{row, inRange}
+use Rattle.rules.specs.Rules.{asking, requests, begun, askWith, askPair, askIn, ask, heard, answerTo, marked, deliver, decided, allowed, steady, sameCandidates, orSet, handsBack, commit, floorInside, adoptOr, advanceFrom, advanceIn, advance, leaves, lose, again, stop, ruled, effectOf}
 use Rattle.state.specs.declared.Run.{Run}
 use Rattle.state.specs.State.{proper}
 use Rattle.parlour.specs.Steps.{slotOf, deviceOf, messageAt, hereAt}
@@ -77,6 +79,11 @@ pub data Floored (a : Asking) (h : Here) : Floor → Type 0 where
   as-saved : (floor : Floor) → a .floor ≡ floor → Floored a h floor
   now-set : a .floor ≡ Unset → allowed a h ≡ true → steady a h ≡ true → Floored a h (Set (decided h))
 
+-- what a step sends that changes no device: nothing, or a copy of its slot's message
+pub data Resends (m : Message) : Sending → Type 0 where
+  sends-nothing : Resends m noSending
+  sends-again : Resends m (record { message = m; to = only (addressee m) })
+
 -- a step, with the message of the slot that it names, may have this effect where the device stands so
 pub data Acts (proper : Bool) (h : Here) : Step → Message → Effect → Type 0 where
   -- by 1 only where the state is none
@@ -98,9 +105,9 @@ pub data Acts (proper : Bool) (h : Here) : Step → Message → Effect → Type 
   adopts : (tablet : ℕ) (m : Message) (a : Asking) (floor : Floor) → tablet ≤ 7 → h .tablet .phase ≡ Asks a → Floored a h floor
       → floorInside floor (h .contents .v) ≡ true
       → Acts proper h (Advance tablet) m (handsBack (Adopted (h .contents .v)) noSending h)
-  loses : (slot : ℕ) (m : Message) → Acts proper h (Lose slot) m (leaves true false noSending h)
-  repeats : (slot : ℕ) (m : Message) → Acts proper h (Repeat slot) m (leaves false false (record { message = m; to = only (addressee m) }) h)
-  stops : (device : ℕ) (m : Message) → Acts proper h (Stop device) m (leaves false true noSending h)
+  changes-none : (step : Step) (m : Message) (frees stops : Bool) (sending : Sending) → row step .asks ≡ false
+      → (frees ≡ false) ⊎ (row step .frees ≡ true) → (stops ≡ false) ⊎ (row step .stops ≡ true) → Resends m sending
+      → Acts proper h step m (leaves frees stops sending h)
 
 -- ---- Every step is one of them
 
@@ -181,22 +188,27 @@ deliver-acts proper slot (Answer l) h =
 deliver-acts proper slot (Commit n) h =
     either (Acts proper h (Deliver slot) (Commit n)) (h .stopped) _ _ (λ e. refused _ (Commit n) 3 (λ p. omega arith)) (λ e. hears-commit slot n)
 
-ruled-acts : (proper : Bool) (step : Step) (m : Message) (h : Here) → inRange step ≡ true → Acts proper h step m (ruled step m h)
+ruled-acts : (proper : Bool) (step : Step) (m : Message) (h : Here) → inRange (row step .names) ≡ true → Acts proper h step m (ruled step m h)
 unfolding ruled lose again stop
 ruled-acts proper (Ask tablet own pair) m h e = ask-acts proper m h tablet own pair (leb-true tablet 7 e)
 ruled-acts proper (Advance tablet) m h e = advance-acts proper m h tablet (leb-true tablet 7 e)
 ruled-acts proper (Deliver slot) m h e = deliver-acts proper slot m h
-ruled-acts proper (Lose slot) m h e = either (Acts proper h (Lose slot) m) (isEmpty m) _ _ (λ d. refused _ m 7 (λ p. omega arith)) (λ d. loses slot m)
+ruled-acts proper (Lose slot) m h e =
+    either (Acts proper h (Lose slot) m) (isEmpty m) _ _ (λ d. refused _ m 7 (λ p. omega arith))
+    (λ d. changes-none _ m true false noSending refl (inr refl) (inl refl) sends-nothing)
 ruled-acts proper (Repeat slot) m h e =
     either (Acts proper h (Repeat slot) m) (isEmpty m) _ _ (λ d. refused _ m 7 (λ p. omega arith))
-    (λ d. either (Acts proper h (Repeat slot) m) (ltb (h .free) 1) _ _ (λ c. refused _ m 10 (λ p. omega arith)) (λ c. repeats slot m))
-ruled-acts proper (Stop device) m h e = either (Acts proper h (Stop device) m) (h .stopped) _ _ (λ d. refused _ m 3 (λ p. omega arith)) (λ d. stops device m)
+    (λ d. either (Acts proper h (Repeat slot) m) (ltb (h .free) 1) _ _ (λ c. refused _ m 10 (λ p. omega arith))
+    (λ c. changes-none _ m false false _ refl (inl refl) (inl refl) sends-again))
+ruled-acts proper (Stop device) m h e =
+    either (Acts proper h (Stop device) m) (h .stopped) _ _ (λ d. refused _ m 3 (λ p. omega arith))
+    (λ d. changes-none _ m false true noSending refl (inl refl) (inr refl) sends-nothing)
 
 pub acts : (proper : Bool) (step : Step) (m : Message) (h : Here) → Acts proper h step m (effectOf proper step m h)
 unfolding effectOf
 acts proper step m h =
     either (Acts proper h step m) proper _ _
-    (λ e. either (Acts proper h step m) (inRange step) _ _ (ruled-acts proper step m h) (λ d. refused step m 2 (λ p. omega arith)))
+    (λ e. either (Acts proper h step m) (inRange (row step .names)) _ _ (ruled-acts proper step m h) (λ d. refused step m 2 (λ p. omega arith)))
     (λ e. refused step m 1 (λ p. absurd (true≢false (sym p ∙ e))))
 
 -- ---- A step of a run

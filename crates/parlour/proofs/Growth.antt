@@ -25,7 +25,7 @@ use Rattle.state.specs.declared.Run.{Run}
 use Rattle.state.proofs.SlotLaws.{replaced-at}
 use Rattle.parlour.specs.Steps.{hereAt, applied, takenIf, taken}
 use Rattle.parlour.specs.Statements.{deviceAt, Grown}
-use Rattle.parlour.proofs.Acts.{Acts, refused, asks, hears-request, hears-answer, hears-commit, goes-on, commits, adopts, loses, repeats, stops, deviceFor, hereFor, effectFor, acts-for}
+use Rattle.parlour.proofs.Acts.{Acts, refused, asks, hears-request, hears-answer, hears-commit, goes-on, commits, adopts, changes-none, deviceFor, hereFor, effectFor, acts-for}
 
 -- ---- The order
 
@@ -88,9 +88,7 @@ acts-grow h (hears-commit slot n) = above-mine (h .listed) (h .contents) _
 acts-grow h (goes-on tablet m a floor l i r f) = below-same _ _
 acts-grow h (commits tablet m a l i x y z) = below-same _ _
 acts-grow h (adopts tablet m a floor l i f x) = below-same _ _
-acts-grow h (loses slot m) = below-same _ _
-acts-grow h (repeats slot m) = below-same _ _
-acts-grow h (stops device m) = below-same _ _
+acts-grow h (changes-none step m frees stops sending i f g c) = below-same _ _
 
 pub step-grows : (step : Step) (r : Run) (q : ℕ) → Grown (taken step r .run .listed) (deviceAt q r) (deviceAt q (taken step r .run))
 unfolding taken takenIf applied hereAt

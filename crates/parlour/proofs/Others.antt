@@ -10,7 +10,6 @@ use native.Mathlib.Omega.{arith}
 use lib.Dec.{eqb}
 use lib.ListN.{getD, set}
 use lib.Seq.{set-getD}
-use borrow.Author.Tests.{leb-true}
 use Rattle.sets.specs.Choice.{pick}
 use Rattle.sets.specs.Sets.{digit, has, union}
 use Rattle.sets.proofs.SetLaws.{digit-lt, has-digit, digit-has, digit-union, union-has-left}
@@ -26,38 +25,20 @@ use Rattle.devices.specs.declared.Outcome.the-variants.{Done, Round, Committed,
 use Rattle.devices.specs.declared.Here.{Here}
 use Rattle.devices.specs.declared.Effect.{Effect}
 use Rattle.devices.specs.declared.Step.{Step}
-use Rattle.devices.specs.declared.Step.the-variants.{Ask, Advance, Deliver, Lose, Repeat, Stop}
 use Rattle.devices.specs.Contents.{freshContents, freshTablet}
-use Rattle.devices.specs.Effects.{keptAfter, addressee, refuse}
-use Rattle.rules.specs.Rules.{inRange, effectOf}
+use Rattle.devices.specs.Effects.{keptAfter, refuse}
+use Rattle.rules.specs.Table.{row, inRange, slotNamed, deviceNamed}
+use Rattle.rules.specs.Rules.{effectOf}
 use Rattle.state.specs.declared.Run.{Run}
 use Rattle.state.specs.State.{properMessage, proper}
-use Rattle.state.proofs.StateLaws.{proper-parts, answer-to, addressee-to}
-use Rattle.parlour.specs.Steps.{within, slotNamed, slotOf, deviceNamed, deviceOf, hereAt, applied, takenIf, taken}
+use Rattle.state.proofs.StateLaws.{proper-parts, answer-to}
+use Rattle.parlour.specs.Steps.{within, slotOf, hereAt, applied, takenIf, taken}
 use Rattle.parlour.specs.Statements.{deviceAt, tabletAt, Acting, Frees, Halts, OthersStay}
-use Rattle.parlour.proofs.Places.{within-in}
+use Rattle.parlour.proofs.Places.{within-in, slot-named, device-named}
 use Rattle.sets.proofs.Single.{in-single}
-use Rattle.parlour.proofs.Acts.{Acts, refused, asks, hears-request, hears-answer, hears-commit, goes-on, commits, adopts, loses, repeats, stops, messageFor, deviceFor, hereFor, effectFor, acts-for}
+use Rattle.parlour.proofs.Acts.{Acts, refused, asks, hears-request, hears-answer, hears-commit, goes-on, commits, adopts, changes-none, messageFor, deviceFor, hereFor, effectFor, acts-for}
 use Rattle.parlour.proofs.Frame.{device-other, tablet-other, slot-other, refusal-leaves}
 use Rattle.parlour.proofs.ProperStays.{listed-stays, listed-longer}
-
--- ---- The slot and the device that a step in range names are those that it is about
-
-slot-named : (step : Step) → inRange step ≡ true → slotOf step ≡ slotNamed step
-slot-named (Ask tablet own pair) h = refl
-slot-named (Advance tablet) h = refl
-slot-named (Deliver slot) h = sym (within-in 128 slot (omega (arith, leb-true slot 127 h)))
-slot-named (Lose slot) h = sym (within-in 128 slot (omega (arith, leb-true slot 127 h)))
-slot-named (Repeat slot) h = sym (within-in 128 slot (omega (arith, leb-true slot 127 h)))
-slot-named (Stop device) h = refl
-
-device-named : (n : ℕ) (step : Step) (m : Message) → inRange step ≡ true → properMessage n m ≡ true → deviceOf step m ≡ deviceNamed step m
-device-named n (Ask tablet own pair) m h p = sym (within-in 24 tablet (omega (arith, leb-true tablet 7 h)))
-device-named n (Advance tablet) m h p = sym (within-in 24 tablet (omega (arith, leb-true tablet 7 h)))
-device-named n (Deliver slot) m h p = sym (within-in 24 (addressee m) (addressee-to n m p))
-device-named n (Lose slot) m h p = refl
-device-named n (Repeat slot) m h p = refl
-device-named n (Stop device) m h p = sym (within-in 24 device (omega (arith, leb-true device 23 h)))
 
 -- ---- What an effect leaves alone
 
@@ -66,31 +47,30 @@ record Leaves (step : Step) (m : Message) (slot d : ℕ) (h : Here) (e : Effect)
   contents : (e .contents ≡ h .contents) ⊎ Acting step m d
   tablet : (e .tablet ≡ h .tablet) ⊎ Acting step m (within 8 d)
   frees : (e .frees ≡ false) ⊎ Frees step slot
-  stops : (e .stops ≡ false) ⊎ Halts step d
+  stops : (e .stops ≡ false) ⊎ Halts step m d
 
 -- a tablet stands at its own place
 tablet-place : {d n : ℕ} → d ≡ n → n < 8 → within 8 d ≡ n
 tablet-place {d} e l = sym (within-in 8 d (omega arith)) ∙ e
 
 acts-leave : {known : Bool} {step : Step} {m : Message} {e : Effect} (h : Here) (n slot d : ℕ) → properMessage n m ≡ true
-    → slot ≡ slotNamed step → d ≡ deviceNamed step m → Acts known h step m e → Leaves step m slot d h e
+    → slot ≡ slotNamed (row step .names) → d ≡ deviceNamed (row step .names) m → Acts known h step m e → Leaves step m slot d h e
 unfolding refuse
 acts-leave h n slot d p s a (refused step m k b) = record { contents = inl refl; tablet = inl refl; frees = inl refl; stops = inl refl }
 acts-leave h n slot d p s a (asks tablet own pair m listed named l i r x) =
-    record { contents = inr a; tablet = inr (tablet-place a (omega arith)); frees = inl refl; stops = inl refl }
-acts-leave h n slot d p s a (hears-request k l) = record { contents = inr a; tablet = inl refl; frees = inr s; stops = inl refl }
+    record { contents = inr (refl, a); tablet = inr (refl, tablet-place a (omega arith)); frees = inl refl; stops = inl refl }
+acts-leave h n slot d p s a (hears-request k l) = record { contents = inr (refl, a); tablet = inl refl; frees = inr (refl, s); stops = inl refl }
 acts-leave h n slot d p s a (hears-answer k l) =
-    record { contents = inr a; tablet = inr (tablet-place a (answer-to n l p)); frees = inr s; stops = inl refl }
-acts-leave h n slot d p s a (hears-commit k c) = record { contents = inr a; tablet = inl refl; frees = inr s; stops = inl refl }
+    record { contents = inr (refl, a); tablet = inr (refl, tablet-place a (answer-to n l p)); frees = inr (refl, s); stops = inl refl }
+acts-leave h n slot d p s a (hears-commit k c) = record { contents = inr (refl, a); tablet = inl refl; frees = inr (refl, s); stops = inl refl }
 acts-leave h n slot d p s a (goes-on tablet m x floor l i r f) =
-    record { contents = inl refl; tablet = inr (tablet-place a (omega arith)); frees = inl refl; stops = inl refl }
+    record { contents = inl refl; tablet = inr (refl, tablet-place a (omega arith)); frees = inl refl; stops = inl refl }
 acts-leave h n slot d p s a (commits tablet m x l i y z w) =
-    record { contents = inl refl; tablet = inr (tablet-place a (omega arith)); frees = inl refl; stops = inl refl }
+    record { contents = inl refl; tablet = inr (refl, tablet-place a (omega arith)); frees = inl refl; stops = inl refl }
 acts-leave h n slot d p s a (adopts tablet m x floor l i f y) =
-    record { contents = inl refl; tablet = inr (tablet-place a (omega arith)); frees = inl refl; stops = inl refl }
-acts-leave h n slot d p s a (loses k m) = record { contents = inl refl; tablet = inl refl; frees = inr s; stops = inl refl }
-acts-leave h n slot d p s a (repeats k m) = record { contents = inl refl; tablet = inl refl; frees = inl refl; stops = inl refl }
-acts-leave h n slot d p s a (stops device m) = record { contents = inl refl; tablet = inl refl; frees = inl refl; stops = inr a }
+    record { contents = inl refl; tablet = inr (refl, tablet-place a (omega arith)); frees = inl refl; stops = inl refl }
+acts-leave h n slot d p s a (changes-none step m frees stops sending i f g c) =
+    record { contents = inl refl; tablet = inl refl; frees = ⊎-map (λ q. q) (λ q. (q, s)) f; stops = ⊎-map (λ q. q) (λ q. (q, a)) g }
 
 -- ---- Stopped devices and the kept join
 
@@ -154,9 +134,7 @@ acts-refused n h (hears-commit slot c) q = cc
 acts-refused n h (goes-on tablet m a floor l i r f) q = cc
 acts-refused n h (commits tablet m a l i x y z) q = cc
 acts-refused n h (adopts tablet m a floor l i f x) q = cc
-acts-refused n h (loses slot m) q = cc
-acts-refused n h (repeats slot m) q = cc
-acts-refused n h (stops device m) q = cc
+acts-refused n h (changes-none step m frees stops sending i f g c) q = cc
 
 module _ (step : Step) (r : Run) where
   -- short names for what the step is about
@@ -189,7 +167,7 @@ module _ (step : Step) (r : Run) where
         slots = λ k n f. slot-other (slotOf step) d e r k f (⊎-map (λ i. i) (other (Frees step) n) (l .frees));
         listed = listed-stays step r;
         longer = listed-longer step r;
-        stopped = λ q n. halts-other (e .stops) (r .stopped) d q (⊎-map (λ i. i) (other (Halts step) n) (l .stops));
+        stopped = λ q n. halts-other (e .stops) (r .stopped) d q (⊎-map (λ i. i) (other (Halts step m) n) (l .stops));
         for-good = λ q f. stays-stopped (e .stops) (r .stopped) d q f;
         first = refl;
         kept = kept-grows (e .outcome) (r .kept);
@@ -206,15 +184,15 @@ module _ (step : Step) (r : Run) where
 
   pub others-stay : OthersStay step r (taken step r .run)
   unfolding effectOf
-  others-stay = go (proper r) refl (inRange step) refl
+  others-stay = go (proper r) refl (inRange (row step .names)) refl
     where
       untouched : (n : ℕ) → e ≡ refuse n h → OthersStay step r (taken step r .run)
       untouched n q = subst (OthersStay step r) (sym (refusal-run n q)) (same-stay step r)
 
-      go : (ok : Bool) → proper r ≡ ok → (in-range : Bool) → inRange step ≡ in-range → OthersStay step r (taken step r .run)
+      go : (ok : Bool) → proper r ≡ ok → (in-range : Bool) → inRange (row step .names) ≡ in-range → OthersStay step r (taken step r .run)
       go false p b i = untouched 1 (rw p)
       go true p false i = untouched 2 (rw (p, i))
       go true p true i =
           let message = proper-parts r p .messages (slotOf step) in
-          left-stay (acts-leave h (r .listed .count) (slotOf step) d message (slot-named step i)
-          (device-named (r .listed .count) step m i message) (acts-for step r))
+          left-stay (acts-leave h (r .listed .count) (slotOf step) d message (slot-named (row step .names) i)
+          (device-named (r .listed .count) (row step .names) m i message) (acts-for step r))

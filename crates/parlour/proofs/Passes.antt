@@ -16,13 +16,13 @@ use Rattle.sets.proofs.BoundedLaws.{both-left, both-right, both-yes}
 use Rattle.devices.specs.declared.Message.{Message}
 use Rattle.devices.specs.declared.Step.{Step}
 use Rattle.devices.specs.Effects.{addressed, copies}
+use Rattle.rules.specs.Table.{row}
 use Rattle.state.specs.declared.Slot.{Slot}
 use Rattle.state.specs.declared.Run.{Run}
 use Rattle.state.specs.Slots.{emptySlot, isFree, all}
 use Rattle.state.specs.State.{properDesk, proper}
 use Rattle.state.proofs.SlotLaws.{all-turn, all-done, holding, laidFrom, laid-from-none, laid-from-end, laid-store, laid-pass}
 use Rattle.state.proofs.StateLaws.{upToSlot, proper-by-messages}
-use Rattle.parlour.specs.Working.{countsFree}
 
 -- ---- The scan: what was tested so far and what is left to test make up what is asked
 
@@ -49,8 +49,8 @@ scan-done false r z ok n b h e = all-done (upToSlot (r .listed .count)) (r .slot
 
 -- ---- The count of free slots
 
-pub count-bound : (step : Step) {bound : ℕ} → bound ≡ pick (countsFree step) 128 0 → bound ≤ 128
-count-bound step e = go (countsFree step) e
+pub count-bound : (step : Step) {bound : ℕ} → bound ≡ pick (row step .counts) 128 0 → bound ≤ 128
+count-bound step e = go (row step .counts) e
   where
     go : (b : Bool) {bound : ℕ} → bound ≡ pick b 128 0 → bound ≤ 128
     go true e = omega (arith, e)

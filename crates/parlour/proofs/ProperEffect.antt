@@ -24,6 +24,7 @@ use Rattle.devices.specs.declared.Letter.{Letter}
 use Rattle.devices.specs.declared.Outcome.{Outcome}
 use Rattle.devices.specs.declared.Message.{Message}
 use Rattle.devices.specs.declared.Message.the-variants.{Empty, Request, Answer, Commit}
+use Rattle.devices.specs.declared.Sending.{Sending}
 use Rattle.devices.specs.declared.Here.{Here}
 use Rattle.devices.specs.declared.Effect.{Effect}
 use Rattle.devices.specs.Contents.{freshContents, freshTablet, merged}
@@ -36,7 +37,7 @@ use Rattle.state.proofs.StateLaws.{lt-names, Proper}
 use Rattle.state.proofs.ListingLaws.{fits-more, tablet-more, message-more}
 use Rattle.parlour.specs.Steps.{within, messageAt, applied}
 use Rattle.sets.proofs.Single.{none-in-empty, above-move, in-single}
-use Rattle.parlour.proofs.Acts.{begins}
+use Rattle.parlour.proofs.Acts.{begins, Resends, sends-nothing, sends-again}
 use Rattle.parlour.proofs.Frame.{Source, none, stayed, sent, message-from}
 
 -- ---- An effect on a run
@@ -116,9 +117,14 @@ addressed-same (Request l) = refl
 addressed-same (Answer l) = refl
 addressed-same (Commit n) = refl
 
-pub repeated-proper : (n : ℕ) (m : Message) → properMessage n m ≡ true → (d : ℕ) → has d (only (addressee m)) ≡ true
+repeated-proper : (n : ℕ) (m : Message) → properMessage n m ≡ true → (d : ℕ) → has d (only (addressee m)) ≡ true
     → properMessage n (addressed m d) ≡ true
 repeated-proper n m h d i = ap (λ (x : ℕ). properMessage n (addressed m x)) (to-only (addressee m) d i) ∙ ap (properMessage n) (addressed-same m) ∙ h
+
+pub resends-proper : (n : ℕ) {m : Message} {sending : Sending} → properMessage n m ≡ true → Resends m sending → (d : ℕ) → d < 24
+    → has d (sending .to) ≡ true → properMessage n (addressed (sending .message) d) ≡ true
+resends-proper n h sends-nothing d u i = refl
+resends-proper n {m} h sends-again d u i = repeated-proper n m h d i
 
 -- a round that begins sends requests from a tablet to boxes
 pub begins-proper : (tablet : ℕ) (outcome : Outcome) (floor : Floor) (listed : Listed) (c : Contents) (h : Here) → tablet ≤ 7

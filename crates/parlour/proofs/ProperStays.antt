@@ -28,10 +28,10 @@ use Rattle.state.specs.State.{allDifferent, properTablet, isTablet, isBox, prop
 use Rattle.state.proofs.StateLaws.{Sized, Proper, proper-parts, parts-proper, letter-fits}
 use Rattle.state.proofs.ListingLaws.{fits-more}
 use Rattle.parlour.specs.Steps.{within, slotOf, hereAt, applied, takenIf, taken}
-use Rattle.parlour.proofs.Acts.{Acts, refused, asks, hears-request, hears-answer, hears-commit, goes-on, commits, adopts, loses, repeats, stops, deviceFor, hereFor, effectFor, acts-for}
+use Rattle.parlour.proofs.Acts.{Acts, refused, asks, hears-request, hears-answer, hears-commit, goes-on, commits, adopts, changes-none, deviceFor, hereFor, effectFor, acts-for}
 use Rattle.parlour.proofs.Naming.{naming-more, naming-few, naming-different, naming-fits, Lists, as-before, by-ask, lists-same, lists-more, lists-long}
 use Rattle.parlour.proofs.Frame.{sized-applied}
-use Rattle.parlour.proofs.ProperEffect.{ProperEffect, proper-applied, merged-fits, marked-proper, idle-proper, repeated-proper, begins-proper, answer-proper}
+use Rattle.parlour.proofs.ProperEffect.{ProperEffect, proper-applied, merged-fits, marked-proper, idle-proper, resends-proper, begins-proper, answer-proper}
 
 -- ---- A proper state stays proper
 
@@ -87,10 +87,8 @@ acts-proper h p q (commits tablet m a l i x y z) =
     (λ d u j. both-on (isTablet tablet) (ltb d 24) (lt-ltb tablet 8 (omega arith)) (lt-ltb d 24 u))
 acts-proper h p q (adopts tablet m a floor l i f x) =
     settled-proper _ _ _ _ _ _ h p (p .contents) (idle-proper (h .listed .count) (h .tablet) (p .tablet)) (λ d u j. refl)
-acts-proper h p q (loses slot m) = settled-proper _ _ _ _ _ _ h p (p .contents) (p .tablet) (λ d u i. refl)
-acts-proper h p q (repeats slot m) =
-    settled-proper _ _ _ _ _ _ h p (p .contents) (p .tablet) (λ d u i. repeated-proper (h .listed .count) m q d i)
-acts-proper h p q (stops device m) = settled-proper _ _ _ _ _ _ h p (p .contents) (p .tablet) (λ d u i. refl)
+acts-proper h p q (changes-none step m frees stops sending i f g c) =
+    settled-proper _ _ _ _ _ _ h p (p .contents) (p .tablet) (resends-proper (h .listed .count) q c)
 
 -- ---- The list of changes
 
@@ -104,9 +102,7 @@ acts-lists (hears-commit slot n) = as-before
 acts-lists (goes-on tablet m a floor l i r f) = as-before
 acts-lists (commits tablet m a l i x y z) = as-before
 acts-lists (adopts tablet m a floor l i f x) = as-before
-acts-lists (loses slot m) = as-before
-acts-lists (repeats slot m) = as-before
-acts-lists (stops device m) = as-before
+acts-lists (changes-none step m frees stops sending i f g c) = as-before
 
 -- ---- The number of an outcome
 
@@ -122,9 +118,7 @@ acts-not-1 p (hears-commit slot n) q = omega (arith, q)
 acts-not-1 p (goes-on tablet m a floor l i r f) q = omega (arith, q)
 acts-not-1 p (commits tablet m a l i x y z) q = omega (arith, q)
 acts-not-1 p (adopts tablet m a floor l i f x) q = omega (arith, q)
-acts-not-1 p (loses slot m) q = omega (arith, q)
-acts-not-1 p (repeats slot m) q = omega (arith, q)
-acts-not-1 p (stops device m) q = omega (arith, q)
+acts-not-1 p (changes-none step m frees stops sending i f g c) q = omega (arith, q)
 
 -- ---- The step
 

@@ -1,10 +1,9 @@
 -- What the stores and passes of one step make of the run is what the rule's effect does to it.
 use Prim.Native.Nat.{ℕ, _+_, _^_, _≤_, _<_}
-use mathlib.Core.Bool.{Bool, true, false}
+use mathlib.Core.Bool.{Bool, true, false, true≢false}
 use mathlib.Core.List.{List}
 use mathlib.Core.Path.{_≡_, refl, ap, _∙_}
 use mathlib.Core.Logic.{_⊎_, inl, inr}
-use native.Mathlib.Nat.{lt-irrefl}
 use native.Mathlib.Omega.{arith}
 use lib.Dec.{ltb, eqb}
 use lib.ListN.{getD, set, length, drop, length-set}
@@ -20,7 +19,8 @@ use Rattle.devices.specs.declared.Step.{Step}
 use Rattle.devices.specs.declared.Step.the-variants.{Ask, Advance, Deliver, Lose, Repeat, Stop}
 use Rattle.devices.specs.Contents.{freshContents, freshTablet}
 use Rattle.devices.specs.Effects.{answerOf, numberOf, keptAfter, addressed, copies, refuse}
-use Rattle.rules.specs.Rules.{deliver, lose, stop, inRange, ruled, effectOf}
+use Rattle.rules.specs.Table.{row, inRange}
+use Rattle.rules.specs.Rules.{deliver, lose, stop, ruled, effectOf}
 use Rattle.state.specs.declared.Slot.{Slot}
 use Rattle.state.specs.declared.Run.{Run}
 use Rattle.state.specs.declared.Stepped.{Stepped}
@@ -28,7 +28,6 @@ use Rattle.state.specs.Slots.{emptySlot, isFree, many, laid, freedIf}
 use Rattle.parlour.specs.Steps.{within, slotOf, deviceOf, messageAt, hereAt, applied, takenAt, takenIf, taken, StepPromise, mayUnplug, unplugAnswer, UnplugPromise}
 use Rattle.state.specs.State.{proper}
 use Rattle.parlour.specs.declared.Unplug.{Unplug}
-use Rattle.parlour.specs.Working.{countsFree}
 use Rattle.state.proofs.SlotLaws.{holding, many-end}
 use Rattle.parlour.proofs.Passes.{nothing-to-lay, Laying, lay-skip, lay-pass, lay-store, lay-done}
 
@@ -45,24 +44,24 @@ deliver-free (Request l) free h = refl
 deliver-free (Answer l) free h = refl
 deliver-free (Commit n) free h = refl
 
-ruled-free : (step : Step) (m : Message) (free : ℕ) (h : Here) → countsFree step ≡ false → ruled step m (withFree free h) ≡ ruled step m h
+ruled-free : (step : Step) (m : Message) (free : ℕ) (h : Here) → row step .counts ≡ false → ruled step m (withFree free h) ≡ ruled step m h
 unfolding ruled lose stop refuse
-ruled-free (Ask tablet own pair) m free h e = let z : _≡_ {A = ℕ} 0 1 = cc in absurd (lt-irrefl 0 (omega arith))
-ruled-free (Advance tablet) m free h e = let z : _≡_ {A = ℕ} 0 1 = cc in absurd (lt-irrefl 0 (omega arith))
+ruled-free (Ask tablet own pair) m free h e = absurd (true≢false e)
+ruled-free (Advance tablet) m free h e = absurd (true≢false e)
 ruled-free (Deliver slot) m free h e = deliver-free m free h
 ruled-free (Lose slot) m free h e = refl
-ruled-free (Repeat slot) m free h e = let z : _≡_ {A = ℕ} 0 1 = cc in absurd (lt-irrefl 0 (omega arith))
+ruled-free (Repeat slot) m free h e = absurd (true≢false e)
 ruled-free (Stop device) m free h e = refl
 
 -- with the number of free slots where it counts, the effect is that of the parts
-pub effect-free : (ok : Bool) (step : Step) (m : Message) (free : ℕ) (h : Here) → (countsFree step ≡ true → free ≡ h .free)
+pub effect-free : (ok : Bool) (step : Step) (m : Message) (free : ℕ) (h : Here) → (row step .counts ≡ true → free ≡ h .free)
     → effectOf ok step m (withFree free h) ≡ effectOf ok step m h
 unfolding effectOf refuse
-effect-free ok step m free h p = go (countsFree step) refl
+effect-free ok step m free h p = go (row step .counts) refl
   where
-    go : (b : Bool) → countsFree step ≡ b → effectOf ok step m (withFree free h) ≡ effectOf ok step m h
+    go : (b : Bool) → row step .counts ≡ b → effectOf ok step m (withFree free h) ≡ effectOf ok step m h
     go true e = ap (λ (f : ℕ). effectOf ok step m (withFree f h)) (p e)
-    go false e = ap (λ (x : Effect). pick ok (pick (inRange step) x (refuse 2 h)) (refuse 1 h)) (ruled-free step m free h e)
+    go false e = ap (λ (x : Effect). pick ok (pick (inRange (row step .names)) x (refuse 2 h)) (refuse 1 h)) (ruled-free step m free h e)
 
 -- ---- The stores
 
@@ -192,14 +191,14 @@ seen d t free r =
     }
 
 effect-is : (ok : Bool) (step : Step) (m : Message) (r : Run) (free d : ℕ) {t : ℕ} {e : Effect} → t ≡ within 8 d
-    → (countsFree step ≡ true → free ≡ many isFree (r .slots)) → e ≡ effectOf ok step m (seen d t free r) → e ≡ effectOf ok step m (hereAt d r)
+    → (row step .counts ≡ true → free ≡ many isFree (r .slots)) → e ≡ effectOf ok step m (seen d t free r) → e ≡ effectOf ok step m (hereAt d r)
 unfolding hereAt
 effect-is ok step m r free d c f g =
     g ∙ ap (λ (t : ℕ). effectOf ok step m (seen d t free r)) c ∙ effect-free ok step m free (hereAt d r) f
 
 -- what the code reads at its places and stores there is what the rules say
 pub take-is : (ok : Bool) (step : Step) (r : Run) (free : ℕ) {at d t stopped : ℕ} {slot : Slot} {kept : Book} {e : Effect} {r′ : Run}
-    → at ≡ slotOf step → d ≡ deviceOf step (messageAt at r) → t ≡ within 8 d → (countsFree step ≡ true → free ≡ many isFree (r .slots))
+    → at ≡ slotOf step → d ≡ deviceOf step (messageAt at r) → t ≡ within 8 d → (row step .counts ≡ true → free ≡ many isFree (r .slots))
     → e ≡ effectOf ok step (messageAt at r) (seen d t free r)
     → slot ≡ pick (e .frees) emptySlot (getD (r .slots) at emptySlot) → stopped ≡ pick (e .stops) (union (r .stopped) (2 ^ d)) (r .stopped)
     → kept ≡ keptAfter (e .outcome) (r .kept)
@@ -212,8 +211,8 @@ take-is ok step r free {at} {d} {e = e} a b c f g s u k w =
     ∙ ap (λ (x : ℕ). takenAt ok step x (messageAt x r) r) a
 
 -- the number of free slots, where all were looked through
-pub counted-free : (step : Step) (r : Run) (free i : ℕ) {bound : ℕ} → length (r .slots) ≡ 128 → bound ≡ pick (countsFree step) 128 0 → bound ≤ i
-    → free + many isFree (drop i (r .slots)) ≡ many isFree (r .slots) → countsFree step ≡ true → free ≡ many isFree (r .slots)
+pub counted-free : (step : Step) (r : Run) (free i : ℕ) {bound : ℕ} → length (r .slots) ≡ 128 → bound ≡ pick (row step .counts) 128 0 → bound ≤ i
+    → free + many isFree (drop i (r .slots)) ≡ many isFree (r .slots) → row step .counts ≡ true → free ≡ many isFree (r .slots)
 counted-free step r free i {bound} n b l e t =
     let k : bound ≡ 128 = b ∙ ap (λ (x : Bool). pick x 128 0) t in
     omega (arith, e, many-end isFree (r .slots) i (omega arith))

@@ -17,9 +17,9 @@ use Rattle.devices.specs.declared.Message.{Message}
 use Rattle.devices.specs.declared.Message.the-variants.{Empty}
 use Rattle.devices.specs.declared.Outcome.the-variants.{Refused}
 use Rattle.devices.specs.declared.Step.{Step}
-use Rattle.devices.specs.declared.Step.the-variants.{Ask, Advance, Deliver, Lose, Repeat, Stop}
 use Rattle.devices.specs.Contents.{freshContents, freshTablet, merged}
-use Rattle.devices.specs.Effects.{numberOf, addressee, isEmpty}
+use Rattle.devices.specs.Effects.{numberOf, isEmpty}
+use Rattle.rules.specs.Table.{row, slotNamed, deviceNamed}
 use Rattle.state.specs.declared.Slot.{Slot}
 use Rattle.state.specs.declared.Run.{Run}
 use Rattle.state.specs.Slots.{emptySlot, isFree, all, many, laid}
@@ -54,32 +54,17 @@ RefusalsLeave = (step : Step) (r : Run) (n : ℕ) → taken step r .outcome ≡ 
 
 -- ---- "In one step every other device, slot and listed change is as before."
 
--- the device that may change: the acting tablet, or the addressee
+-- the device that may change
 abbrev pub Acting : Step → Message → ℕ → Type 0
-Acting (Ask tablet own pair) m q = q ≡ tablet
-Acting (Advance tablet) m q = q ≡ tablet
-Acting (Deliver slot) m q = q ≡ addressee m
-Acting (Lose slot) m q = ⊥
-Acting (Repeat slot) m q = ⊥
-Acting (Stop device) m q = ⊥
+Acting step m q = (row step .changes ≡ true) × (q ≡ deviceNamed (row step .names) m)
 
 -- the slot that may be freed
 abbrev pub Frees : Step → ℕ → Type 0
-Frees (Ask tablet own pair) k = ⊥
-Frees (Advance tablet) k = ⊥
-Frees (Deliver slot) k = k ≡ slot
-Frees (Lose slot) k = k ≡ slot
-Frees (Repeat slot) k = ⊥
-Frees (Stop device) k = ⊥
+Frees step k = (row step .frees ≡ true) × (k ≡ slotNamed (row step .names))
 
 -- the device that may be stopped
-abbrev pub Halts : Step → ℕ → Type 0
-Halts (Ask tablet own pair) q = ⊥
-Halts (Advance tablet) q = ⊥
-Halts (Deliver slot) q = ⊥
-Halts (Lose slot) q = ⊥
-Halts (Repeat slot) q = ⊥
-Halts (Stop device) q = q ≡ device
+abbrev pub Halts : Step → Message → ℕ → Type 0
+Halts step m q = (row step .stops ≡ true) × (q ≡ deviceNamed (row step .names) m)
 
 pub record OthersStay (step : Step) (before after : Run) : Type 0 where
   -- every other device, and a tablet's own part
@@ -91,7 +76,7 @@ pub record OthersStay (step : Step) (before after : Run) : Type 0 where
   pub listed : (k : ℕ) → k < before .listed .count → changeAt (before .listed) k ≡ changeAt (after .listed) k
   pub longer : before .listed .count ≤ after .listed .count
   -- "Stop (device): for good"
-  pub stopped : (q : ℕ) → (Halts step q → ⊥) → has q (after .stopped) ≡ has q (before .stopped)
+  pub stopped : (q : ℕ) → (Halts step (messageAt (slotOf step) before) q → ⊥) → has q (after .stopped) ≡ has q (before .stopped)
   pub for-good : (q : ℕ) → has q (before .stopped) ≡ true → has q (after .stopped) ≡ true
   -- the first boxes stay, and the kept join only grows
   pub first : after .first ≡ before .first

@@ -11,9 +11,9 @@ use Rattle.devices.specs.declared.Message.{Message}
 use Rattle.devices.specs.declared.Here.{Here}
 use Rattle.devices.specs.declared.Effect.{Effect}
 use Rattle.devices.specs.declared.Step.{Step}
-use Rattle.devices.specs.declared.Step.the-variants.{Ask, Advance, Deliver, Lose, Repeat, Stop}
 use Rattle.devices.specs.Contents.{freshContents, freshTablet}
-use Rattle.devices.specs.Effects.{answerOf, addressee, keptAfter, messagesOf}
+use Rattle.devices.specs.Effects.{answerOf, keptAfter, messagesOf}
+use Rattle.rules.specs.Table.{row, slotNamed, deviceNamed}
 use Rattle.rules.specs.Rules.{effectOf}
 use Rattle.state.specs.declared.Run.{Run}
 use Rattle.state.specs.declared.Stepped.{Stepped}
@@ -28,31 +28,13 @@ use Rattle.state.specs.State.{proper}
 abbrev pub within : ℕ → ℕ → ℕ
 within bound n = pick (ltb n bound) n 0
 
--- the slot that a step names
-abbrev pub slotNamed : Step → ℕ
-slotNamed (Ask tablet own pair) = 0
-slotNamed (Advance tablet) = 0
-slotNamed (Deliver slot) = slot
-slotNamed (Lose slot) = slot
-slotNamed (Repeat slot) = slot
-slotNamed (Stop device) = 0
-
--- its place in the table
+-- the place in the table of the slot that a step names
 abbrev pub slotOf : Step → ℕ
-slotOf step = within 128 (slotNamed step)
+slotOf step = within 128 (slotNamed (row step .names))
 
--- the acting tablet, the addressee, or the device to stop
-abbrev pub deviceNamed : Step → Message → ℕ
-deviceNamed (Ask tablet own pair) m = tablet
-deviceNamed (Advance tablet) m = tablet
-deviceNamed (Deliver slot) m = addressee m
-deviceNamed (Lose slot) m = 0
-deviceNamed (Repeat slot) m = 0
-deviceNamed (Stop device) m = device
-
--- its place among the devices
+-- the place among the devices of the step's device: the acting tablet, the addressee, or the device to stop
 abbrev pub deviceOf : Step → Message → ℕ
-deviceOf step m = within 24 (deviceNamed step m)
+deviceOf step m = within 24 (deviceNamed (row step .names) m)
 
 -- what a slot holds
 abbrev pub messageAt : ℕ → Run → Message

@@ -6,6 +6,7 @@ use devices::Here;
 use devices::Message;
 use devices::Step;
 use devices::Tablet;
+use rules::Named;
 use state::Run;
 use state::Slot;
 use state::Stepped;
@@ -15,10 +16,10 @@ ghost use Prim.Native.Nat.{_<_, _≤_, _^_};
 ghost use Rattle.sets.specs.Choice.{pick};
 ghost use Rattle.sets.specs.Sets.{has, union};
 ghost use Rattle.devices.specs.declared.Step.{Step};
+ghost use Rattle.rules.specs.Table.{row};
 ghost use Rattle.state.specs.Slots.{emptySlot};
 ghost use Rattle.state.specs.State.{properDesk, proper};
 ghost use Rattle.parlour.specs.Steps.{within, slotOf, deviceOf, takenIf, StepPromise, UnplugPromise};
-ghost use Rattle.parlour.specs.Working.{countsFree};
 
 // Whether a box may be unplugged, or the number of a refusal.
 pub enum Unplug {
@@ -36,39 +37,29 @@ fn place_within(bound: usize, n: u8) -> usize
     if i < bound { i } else { 0 }
 }
 
-// The slot that a step names.
+// The place of the slot that a step names.
 fn slot_of(step: Step) -> usize
     ensures { λ r. ⌜ (r ≡ slotOf step) × (r < 128) ⌝ }
 {
-    match step {
-        Step::Ask {
-            tablet: _,
-            notes: _,
-            pair: _,
-        } => 0,
-        Step::Advance(_) => 0,
-        Step::Deliver(slot) => place_within(128, slot),
-        Step::Lose(slot) => place_within(128, slot),
-        Step::Repeat(slot) => place_within(128, slot),
-        Step::Stop(_) => 0,
+    let a = rules::about_step(step);
+    let names = a.names;
+    match names {
+        Named::Tablet(_) => 0,
+        Named::Slot(slot) => place_within(128, slot),
+        Named::Device(_) => 0,
     }
 }
 
-// The acting tablet, the addressee of the slot's message, or the device to stop.
+// The place of the acting tablet, of the addressee of the slot's message, or of the device to stop.
 fn device_of(step: Step, m: Message) -> usize
     ensures { λ r. ⌜ (r ≡ deviceOf step m) × (r < 24) ⌝ }
 {
-    match step {
-        Step::Ask {
-            tablet,
-            notes: _,
-            pair: _,
-        } => place_within(24, tablet),
-        Step::Advance(tablet) => place_within(24, tablet),
-        Step::Deliver(_) => place_within(24, devices::addressee_of(m)),
-        Step::Lose(_) => 0,
-        Step::Repeat(_) => 0,
-        Step::Stop(device) => place_within(24, device),
+    let a = rules::about_step(step);
+    let names = a.names;
+    match names {
+        Named::Tablet(tablet) => place_within(24, tablet),
+        Named::Slot(_) => place_within(24, devices::addressee_of(m)),
+        Named::Device(device) => place_within(24, device),
     }
 }
 
@@ -81,20 +72,10 @@ fn tablet_of(d: usize) -> usize
 
 // How many slots are looked through for free ones: none where their number does not matter to the step.
 fn counted(step: Step) -> usize
-    ensures { λ r. ⌜ r ≡ pick (countsFree step) 128 0 ⌝ }
+    ensures { λ r. ⌜ r ≡ pick (row step .counts) 128 0 ⌝ }
 {
-    match step {
-        Step::Ask {
-            tablet: _,
-            notes: _,
-            pair: _,
-        } => 128,
-        Step::Advance(_) => 128,
-        Step::Deliver(_) => 0,
-        Step::Lose(_) => 0,
-        Step::Repeat(_) => 128,
-        Step::Stop(_) => 0,
-    }
+    let a = rules::about_step(step);
+    if a.counts { 128 } else { 0 }
 }
 
 // A slot after a step: freed, or as it was.

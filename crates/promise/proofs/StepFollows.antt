@@ -19,20 +19,21 @@ use Rattle.devices.specs.declared.Outcome.the-variants.{Done, Refused}
 use Rattle.devices.specs.declared.Sending.{Sending}
 use Rattle.devices.specs.declared.Effect.{Effect}
 use Rattle.devices.specs.declared.Step.{Step}
-use Rattle.devices.specs.declared.Step.the-variants.{Deliver, Lose, Repeat, Stop}
+use Rattle.devices.specs.declared.Step.the-variants.{Deliver}
 use Rattle.devices.specs.Contents.{freshContents, freshTablet, broughtBy, merged}
 use Rattle.devices.specs.Effects.{addressed, addressee, only, noSending, refuse}
+use Rattle.rules.specs.Table.{row, deviceNamed, namesTablet}
 use Rattle.rules.specs.Rules.{heard}
 use Rattle.state.specs.declared.Run.{Run}
 use Rattle.state.specs.Slots.{emptySlot}
 use Rattle.state.specs.State.{fresh, properMessage, proper}
-use Rattle.parlour.specs.Steps.{within, slotOf, deviceOf, deviceNamed, messageAt, hereAt, applied, takenIf, taken}
+use Rattle.parlour.specs.Steps.{within, slotOf, deviceOf, messageAt, hereAt, applied, takenIf, taken}
 use Rattle.agreement.specs.Setting.{Book as AbstractBook}
 use Rattle.agreement.specs.State.{idle, State, told}
 use Rattle.agreement.specs.Steps.{start}
 use Rattle.promise.specs.Promise.{Event, isAskOf, askedBy, after, history}
 use Rattle.promise.proofs.Reading.{parlour, asBook, changesBelow}
-use Rattle.parlour.proofs.Acts.{Acts, refused, asks, hears-request, hears-answer, hears-commit, goes-on, commits, adopts, loses, repeats, stops, acts}
+use Rattle.parlour.proofs.Acts.{Acts, refused, asks, hears-request, hears-answer, hears-commit, goes-on, commits, adopts, changes-none, Resends, sends-nothing, sends-again, acts}
 use Rattle.state.proofs.StateLaws.{sized-fresh, proper-parts, parts-proper, fresh-proper, request-to, answer-to}
 use Rattle.parlour.specs.Statements.{deviceAt}
 use Rattle.parlour.proofs.Places.{within-in, within-lt}
@@ -83,6 +84,11 @@ module _ {first : AbstractBook parlour} {r : Run} {h : List Event} (now : Standi
   repeated m was j i =
       subst (λ (x : Message). Sent (r .listed) (s .network) x) (sym (ap (addressed m) (to-only (addressee m) j i) ∙ addressed-same m)) was
 
+  resent-follows : {m : Message} {sending : Sending} → Resends m sending → Sent (r .listed) (s .network) m → (j : ℕ) → j < 24
+      → has j (sending .to) ≡ true → Sent (r .listed) (s .network) (addressed (sending .message) j)
+  resent-follows sends-nothing was j u i = tt
+  resent-follows {m} sends-again was j u i = repeated m was j i
+
   -- ---- Every case
 
   commit-heard : (k : ℕ) (c : Notice) → Sent (r .listed) (s .network) (Commit c)
@@ -124,10 +130,8 @@ module _ {first : AbstractBook parlour} {r : Run} {h : List Event} (now : Standi
   acts-follow (commits tablet m a l i enough same candidates) is at q was =
       commit-follows now slot d tablet a (named-here at (omega arith)) l i enough same candidates
   acts-follow (adopts tablet m a floor l i f e) is at q was = adopt-follows now slot d tablet a (named-here at (omega arith)) l i floor f e
-  acts-follow (loses k m) is at q was = quiet-follows (Lose k) Done true false noSending (λ j. refl) silent-done (λ j u i. tt)
-  acts-follow (repeats k m) is at q was =
-      quiet-follows (Repeat k) Done false false (record { message = m; to = only (addressee m) }) (λ j. refl) silent-done (λ j u i. repeated m was j i)
-  acts-follow (stops device m) is at q was = quiet-follows (Stop device) Done false true noSending (λ j. refl) silent-done (λ j u i. tt)
+  acts-follow (changes-none step m frees halts sending none f g resent) is at q was =
+      quiet-follows step Done frees halts sending (λ j. ap (λ (b : Bool). both b (namesTablet j (row step .names))) none) silent-done (resent-follows resent was)
 
 -- ---- The step
 
@@ -137,7 +141,7 @@ unfolding taken takenIf applied
 step-follows {r = r} step now =
     let m = messageAt (slotOf step) r in
     let d = deviceOf step m in
-    acts-follow now (slotOf step) d (within-lt 24 (deviceNamed step m) (omega arith)) (acts (proper r) step m (hereAt d r)) (parts-proper r (now .parts)) refl
+    acts-follow now (slotOf step) d (within-lt 24 (deviceNamed (row step .names) m) (omega arith)) (acts (proper r) step m (hereAt d r)) (parts-proper r (now .parts)) refl
     (now .parts .messages (slotOf step)) (now .follows .like .slots (slotOf step))
 
 -- ---- The run

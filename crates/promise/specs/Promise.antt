@@ -15,11 +15,12 @@ use Rattle.sets.specs.Choice.{pick, both}
 use Rattle.sets.specs.Sets.{has}
 use Rattle.books.specs.declared.Config.{Config}
 use Rattle.books.specs.declared.Book.{Book}
-use Rattle.books.specs.Books.{owner, hasNote, ownNotes, noBook, bookInside}
+use Rattle.books.specs.Books.{owner, hasNote, ownNotes, bookInside}
 use Rattle.devices.specs.declared.Step.{Step}
-use Rattle.devices.specs.declared.Step.the-variants.{Ask, Advance, Deliver, Lose, Repeat, Stop}
+use Rattle.devices.specs.declared.Step.the-variants.{Ask, Advance}
 use Rattle.devices.specs.declared.Outcome.{Outcome}
 use Rattle.devices.specs.Effects.{answerOf, numberOf}
+use Rattle.rules.specs.Table.{row, namesTablet}
 use Rattle.state.specs.declared.Run.{Run}
 use Rattle.state.specs.State.{fresh}
 use Rattle.parlour.specs.Steps.{taken}
@@ -80,21 +81,11 @@ pub record AcceptedAsk (h : List Event) : Type 0 where
 
 -- the step is an ask of the tablet
 abbrev pub isAskOf : ℕ → Step → Bool
-isAskOf t (Ask tablet own pair) = eqb tablet t
-isAskOf t (Advance tablet) = false
-isAskOf t (Deliver slot) = false
-isAskOf t (Lose slot) = false
-isAskOf t (Repeat slot) = false
-isAskOf t (Stop device) = false
+isAskOf t step = both (row step .asks) (namesTablet t (row step .names))
 
 -- what a step brings: an ask its tablet's own notes and its pair, any other step nothing
 abbrev pub brought : Step → Book
-brought (Ask tablet own pair) = record { notes = ownNotes tablet own; config = pair }
-brought (Advance tablet) = noBook
-brought (Deliver slot) = noBook
-brought (Lose slot) = noBook
-brought (Repeat slot) = noBook
-brought (Stop device) = noBook
+brought step = row step .brings
 
 -- the event is an accepted ask of the tablet
 abbrev pub askedBy : ℕ → Event → Bool

@@ -29,6 +29,8 @@ use Rattle.devices.specs.declared.Here.{Here}
 use Rattle.devices.specs.declared.Effect.{Effect}
 use Rattle.devices.specs.declared.Step.{Step}
 use Rattle.devices.specs.Effects.{boxOf, refuse}
+use Rattle.rules.specs.declared.table.About.{About}
+use Rattle.rules.specs.Table.{row, aboutStep, inRange}
 use Rattle.rules.specs.Rules.{asking, requests, begun, askWith, askPair, askIn, heard, deliver, advanceIn, ruled, markedIn, marked, decided, orSet, floorInside}
 
 -- ---- Choosing: a result that is what the test picks
@@ -38,6 +40,11 @@ chosen a b e p = p ∙ ap (λ (t : Bool). pick t a b) (sym e)
 
 pub passed : {A : Type 0} {t : Bool} (a b : A) {x : A} → t ≡ false → x ≡ b → x ≡ pick t a b
 passed a b e p = p ∙ ap (λ (t : Bool). pick t a b) (sym e)
+
+-- ---- By the table: the number that a step names is in range or not
+
+pub range-of : (step : Step) {a : About} {b : Bool} → a ≡ aboutStep step → b ≡ inRange (a .names) → inRange (row step .names) ≡ b
+range-of step p q = sym (q ∙ ap (λ (x : About). inRange (x .names)) p)
 
 -- ---- Begin a round
 

@@ -2,7 +2,7 @@
 -- Refusals stand in the order of 01, "Order for steps": what is tested first is refused first.
 use Prim.Native.Nat.{ℕ, _+_, _-_, _*_, _^_}
 use mathlib.Core.Bool.{Bool, true, false}
-use lib.Dec.{ltb, leb, eqb}
+use lib.Dec.{ltb, eqb}
 use Rattle.sets.specs.Choice.{pick, both}
 use Rattle.sets.specs.Sets.{union}
 use Rattle.sets.specs.Bounded.{howMany}
@@ -30,6 +30,7 @@ use Rattle.devices.specs.declared.Step.{Step}
 use Rattle.devices.specs.declared.Step.the-variants.{Ask, Advance, Deliver, Lose, Repeat, Stop}
 use Rattle.devices.specs.Contents.{merged, broughtBy}
 use Rattle.devices.specs.Effects.{only, boxOf, addressee, isEmpty, noSending, refuse}
+use Rattle.rules.specs.Table.{row, inRange}
 
 -- ---- Begin a round (Figure 2, lines 4 to 8)
 
@@ -228,15 +229,6 @@ stop h = pick (h .stopped) (refuse 3 h) (leaves false true noSending h)
 
 -- ---- One step, with the message of the slot that it names
 
--- "tablet over 7, slot over 127, device over 23" are refused by 2
-abbrev pub inRange : Step → Bool
-inRange (Ask tablet own pair) = leb tablet 7
-inRange (Advance tablet) = leb tablet 7
-inRange (Deliver slot) = leb slot 127
-inRange (Lose slot) = leb slot 127
-inRange (Repeat slot) = leb slot 127
-inRange (Stop device) = leb device 23
-
 -- the rule of each step
 unfoldable pub ruled : Step → Message → Here → Effect
 ruled (Ask tablet own pair) m h = ask tablet own pair h
@@ -246,6 +238,6 @@ ruled (Lose slot) m h = lose m h
 ruled (Repeat slot) m h = again m h
 ruled (Stop device) m h = stop h
 
--- "Order for steps: 1, 2, then ..": proper says that the state is one
+-- "Order for steps: 1, 2, then ..": proper says that the state is one; 2 where the step names a number out of range
 unfoldable pub effectOf : Bool → Step → Message → Here → Effect
-effectOf proper step m h = pick proper (pick (inRange step) (ruled step m h) (refuse 2 h)) (refuse 1 h)
+effectOf proper step m h = pick proper (pick (inRange (row step .names)) (ruled step m h) (refuse 2 h)) (refuse 1 h)

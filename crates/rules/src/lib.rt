@@ -6,12 +6,17 @@ use devices::Outcome;
 use devices::Sending;
 use devices::Step;
 ghost use mathlib.Core.Path.{_≡_};
-ghost use Rattle.rules.specs.Rules.{leaves, lose, again, stop, inRange, ruled, effectOf};
+ghost use Rattle.rules.specs.Rules.{leaves, lose, again, stop, ruled, effectOf};
 
 mod advances;
 mod asks;
 mod deliveries;
 mod rounds;
+mod table;
+
+pub use table::About;
+pub use table::Named;
+pub use table::about_step;
 
 // What a step leaves that touches no device.
 fn leave(frees: bool, stops: bool, sending: Sending, h: Here) -> Effect
@@ -62,24 +67,6 @@ fn stop_rule(h: Here) -> Effect
     leave(false, true, devices::no_sending(), h)
 }
 
-// Whether the tablet, slot or device that a step names is one.
-fn in_range(step: Step) -> bool
-    ensures { λ r. ⌜ r ≡ inRange step ⌝ }
-{
-    match step {
-        Step::Ask {
-            tablet,
-            notes: _,
-            pair: _,
-        } => tablet <= 7,
-        Step::Advance(tablet) => tablet <= 7,
-        Step::Deliver(slot) => slot <= 127,
-        Step::Lose(slot) => slot <= 127,
-        Step::Repeat(slot) => slot <= 127,
-        Step::Stop(device) => device <= 23,
-    }
-}
-
 fn rule(step: Step, m: Message, h: Here) -> Effect
     ensures { λ r. ⌜ r ≡ ruled step m h ⌝ }
 {
@@ -102,7 +89,9 @@ pub fn effect_of(proper: bool, step: Step, m: Message, h: Here) -> Effect
     ensures { λ r. ⌜ r ≡ effectOf proper step m h ⌝ }
 {
     if proper {
-        if in_range(step) {
+        let a = table::about_step(step);
+        let names = a.names;
+        if table::in_range(names) {
             return rule(step, m, h);
         }
         return devices::refuse_with(2, h);
