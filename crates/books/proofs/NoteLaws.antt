@@ -18,19 +18,14 @@ use Rattle.sets.proofs.Single.{none-in-empty, in-moved}
 use Rattle.sets.proofs.BoundedLaws.{pick-true, pick-false}
 use Rattle.sets.proofs.Parts.{of-one, Decides, numbers-decided, decided-of-one}
 use Rattle.books.specs.declared.Notes.{Notes}
-use Rattle.books.specs.Books.{owner, hasNote, noNotes, ownNotes, notesInside, joinNotes, sameNotes}
+use Rattle.books.specs.Books.{owner, hasNote, notesOf, noNotes, ownNotes, notesInside, joinNotes, sameNotes}
 
 -- ---- Joining, containment and equality
 
-notesOf : ℕ → Notes
-notesOf s = record { set = s }
-
 pub notes-joined : Semilattice notesInside joinNotes
-unfolding notesOf
 notes-joined = of-one (λ (n : Notes). n .set) notesOf (λ s. refl) (λ n. refl) sets-joined
 
 pub notes-decided : Decides sameNotes
-unfolding notesOf
 notes-decided = decided-of-one (λ (n : Notes). n .set) notesOf (λ n. refl) numbers-decided
 
 -- ---- Single notes

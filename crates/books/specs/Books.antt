@@ -21,6 +21,10 @@ hasNote note notes = has note (notes .set)
 abbrev pub notesPart : Notes → ℕ → ℕ
 notesPart notes k = pick (eqb k 0) (notes .set) 0
 
+-- the notes of such a set
+abbrev pub notesOf : ℕ → Notes
+notesOf set = record { set = set }
+
 -- no notes
 abbrev pub noNotes : Notes
 noNotes = record { set = 0 }

@@ -1,42 +1,97 @@
 -- 01, "On both sides of each edge": the edges marked P, in one table under one statement (`edges-hold`), each seen by computing the rules themselves.
-use Prim.Native.Nat.{ℕ}
+use Prim.Native.Nat.{ℕ, _^_}
 use mathlib.Core.Bool.{Bool, true, false}
 use mathlib.Core.List.{List, [], _∷_}
+use mathlib.Core.Option.{Option, none, some}
 use mathlib.Core.Path.{_≡_, refl}
+use Rattle.sets.specs.Choice.{pick}
+use Rattle.sets.specs.Sets.{inside}
 use Rattle.sets.specs.Bounded.{times, each, unions, howMany, those}
 use Rattle.sets.specs.Majority.{weigh, one, majority, majorityOf}
-use Rattle.books.specs.Books.{ownNotes}
+use Rattle.books.specs.declared.Config.{Config}
+use Rattle.books.specs.declared.Listed.{Listed}
+use Rattle.books.specs.Books.{ownNotes, membersOf, hasMajority}
 use Rattle.books.specs.Queried.{firstPlace, placeOf, withChange, outside, joinedWith, everyMajority, askedBoxes}
+use Rattle.devices.specs.declared.Phase.{Phase}
+use Rattle.devices.specs.declared.Phase.the-variants.{Idle, Asks}
 use Rattle.devices.specs.declared.Step.{Step}
 use Rattle.devices.specs.declared.Step.the-variants.{Ask, Advance, Deliver}
 use Rattle.devices.specs.Contents.{merged}
-use Rattle.devices.specs.Effects.{numberOf, copies, refuse}
-use Rattle.rules.specs.Rules.{begun, askWith, askPair, ask, marked, deliver, decided, allowed, steady, commit, adoptOr, advanceFrom, advance, ruled, effectOf}
+use Rattle.devices.specs.Effects.{numberOf, only, copies, refuse}
+use Rattle.rules.specs.Rules.{begun, askWith, askPair, ask, marked, deliver, decided, allowed, steady, commit, adoptOr, advanceFrom, advance, stop, ruled, effectOf}
+use Rattle.state.specs.declared.Run.{Run}
 use Rattle.state.specs.Slots.{all, many, laid}
 use Rattle.state.specs.State.{fresh, allDifferent, properDesk, proper}
 use Rattle.parlour.specs.Steps.{hereAt, applied, takenIf, taken}
+use Rattle.parlour.specs.Statements.{tabletAt}
 use Rattle.promise.specs.Promise.{after}
 use Rattle.tape.specs.Bits.{bit, odd, bits, num, bitsOf, word}
-use Rattle.tape.specs.Layout.{fieldsAllowed, legal, mark}
+use Rattle.tape.specs.Layout.{fieldsAllowed, legal, mark, numbers, fieldsOf, fieldsIn}
 use Rattle.tape.specs.Printed.{stopsBox15}
-use Rattle.tape.specs.Reading.{begins, stepAt, endAt, kindAt, readAt, Result, given, refused, readFrom, readSteps, firstBoxes, headOf, readTape}
+use Rattle.tape.specs.Reading.{begins, stepAt, endAt, kindAt, readAt, Result, given, refused, wordsOf, readFrom, readSteps, firstBoxes, headOf, readTape}
+use Rattle.tape.specs.Writing.{wide}
+use Rattle.replay.specs.Replay.{stepOf, played}
 
--- a row: boxes added, removed and answered, with the majority's yes or no; a tape, with what reading it comes to;
+-- ---- What the rows speak of
+
+-- the words of a tape played one after the other
+unfoldable pub playedAll : List ℕ → Run → Run
+playedAll [] r = r
+playedAll (word ∷ later) r = playedAll later (played word r .run)
+
+-- the state after the steps of a tape, from a fresh start with its first boxes
+abbrev pub stateAfter : List ℕ → Run
+stateAfter tape = playedAll (wordsOf (readTape tape)) (fresh (firstBoxes tape))
+
+-- a configuration that an asking tablet queries: the boxes that answered, the configuration, its members, and whether it has its majority
+pub record Query : Type 0 where
+  pub answered : ℕ
+  pub config : Config
+  pub members : ℕ
+  pub majority : Bool
+
+abbrev pub queryOf : ℕ → Config → Query
+queryOf answered config =
+    record { answered = answered; config = config; members = membersOf config; majority = hasMajority config answered }
+
+-- the saved configuration joined with a set of changes, where the tablet is asking and they are of the saved T
+abbrev pub queried : Listed → ℕ → Phase → Option Query
+queried listed changes Idle = none
+queried listed changes (Asks a) =
+    pick (inside changes (a .t)) (some (queryOf (a .answered) (joinedWith listed (a .config) changes))) none
+
+-- ---- The table
+
+-- a row: boxes added, removed and answered, with the majority's yes or no; a tape, with what reading it comes to; a tape, with the one device that
+-- its steps leave stopped; first boxes, steps, the latest first, a tablet and a set of changes, with what the tablet then queries;
 -- or first boxes, a step and the steps before it, the latest first, with the step's number
 pub data Row : Type 0 where
   a-majority : ℕ → ℕ → ℕ → Bool → Row
   a-tape : List ℕ → Result → Row
+  a-stop : List ℕ → ℕ → Row
+  a-query : ℕ → List Step → ℕ → ℕ → Query → Row
   a-run : ℕ → Step → List Step → ℕ → Row
 
 -- what a row says
 abbrev pub Says : Row → Type 0
 Says (a-majority added removed answered holds) = majorityOf added removed answered ≡ holds
 Says (a-tape tape outcome) = readTape tape ≡ outcome
+Says (a-stop tape device) = stateAfter tape .stopped ≡ only device
+Says (a-query boxes steps tablet changes query) =
+    queried (after boxes steps .listed) changes (tabletAt tablet (after boxes steps) .phase) ≡ some query
 Says (a-run boxes step earlier number) = numberOf (taken step (after boxes earlier) .outcome) ≡ number
 
 -- an ask of tablet 0 that removes box 0 of the one first box, its request heard by the box, and the answer by the tablet
 abbrev pub onlyBoxRemoved : List Step
 onlyBoxRemoved = Deliver 0 ∷ Deliver 0 ∷ Ask 0 0 (record { added = 0x0000; removed = 0x0001 }) ∷ []
+
+-- v's own configuration: box 0 answered, and is its majority
+abbrev pub ownConfig : Query
+ownConfig = record { answered = 0x0001; config = record { added = 0x0001; removed = 0x0000 }; members = 0x0001; majority = true }
+
+-- the same with the one listed change: no members, and so no majority
+abbrev pub withRemoval : Query
+withRemoval = record { answered = 0x0001; config = record { added = 0x0001; removed = 0x0001 }; members = 0x0000; majority = false }
 
 abbrev pub edges : List Row
 edges =
@@ -53,9 +108,12 @@ edges =
     ∷ a-tape (0x00 ∷ 0x07 ∷ 0xc0 ∷ []) (refused 14)
     -- "`00 07 b7 e0` stops box 15; `00 07 b8 e0` is 14; `00 07 a0` is 13"
     ∷ a-tape (0x00 ∷ 0x07 ∷ 0xb7 ∷ 0xe0 ∷ []) (given (stopsBox15 ∷ []))
+    ∷ a-stop (0x00 ∷ 0x07 ∷ 0xb7 ∷ 0xe0 ∷ []) 23
     ∷ a-tape (0x00 ∷ 0x07 ∷ 0xb8 ∷ 0xe0 ∷ []) (refused 14)
     ∷ a-tape (0x00 ∷ 0x07 ∷ 0xa0 ∷ []) (refused 13)
     -- "first box 0 only, an ask removing box 0, box 0 answers: Advance is 6, as one queried configuration has no members"
+    ∷ a-query 0x0001 onlyBoxRemoved 0 0 ownConfig
+    ∷ a-query 0x0001 onlyBoxRemoved 0 (2 ^ 0) withRemoval
     ∷ a-run 0x0001 (Advance 0) onlyBoxRemoved 6
     ∷ []
 
@@ -68,5 +126,5 @@ pub edges-hold : Hold edges
 unfolding after taken takenIf applied hereAt effectOf ruled ask askPair askWith begun marked deliver decided allowed steady commit adoptOr
     advanceFrom advance refuse copies merged firstPlace placeOf withChange outside joinedWith everyMajority askedBoxes times each unions howMany those weigh one majority
     majorityOf ownNotes fresh allDifferent properDesk proper all many laid bit odd bits num bitsOf word fieldsAllowed legal mark begins stepAt endAt
-    kindAt readAt readFrom readSteps firstBoxes headOf readTape
-edges-hold = (refl, (refl, (refl, (refl, (refl, (refl, (refl, (refl, (refl, (refl, (refl, (refl, (refl, tt)))))))))))))
+    kindAt readAt readFrom readSteps firstBoxes headOf readTape playedAll played stepOf wide numbers fieldsOf fieldsIn stop
+edges-hold = (refl, (refl, (refl, (refl, (refl, (refl, (refl, (refl, (refl, (refl, (refl, (refl, (refl, (refl, (refl, (refl, tt))))))))))))))))

@@ -1,35 +1,40 @@
 -- The useless versions that 01 names ("How far a contract must reach"): what meets the contract of a step is none of them.
 -- A version is what it makes of a step and a state. Each is met on the tape that 01 prints: first boxes 0, 1, 2; tablet 0 asks note 0.
 use Prim.Native.Nat.{ℕ}
+use mathlib.Core.Bool.{Bool, true, false, true≢false}
 use mathlib.Core.List.{List, [], _∷_}
+use mathlib.Core.Logic.{inl}
 use mathlib.Core.Path.{_≡_, refl, sym, ap, _∙_}
 use native.Mathlib.Nat.{lt-irrefl}
 use native.Mathlib.Omega.{arith}
-use lib.ListN.{getD, set}
+use lib.ListN.{getD}
 use Rattle.sets.specs.Bounded.{times, each, unions, howMany, those}
 use Rattle.sets.specs.Majority.{weigh, one, majority, majorityOf}
-use Rattle.books.specs.Books.{ownNotes, noConfig}
+use Rattle.books.specs.declared.Book.{Book}
+use Rattle.books.specs.Books.{hasNote, notesOf, ownNotes, noConfig}
 use Rattle.books.specs.Queried.{firstPlace, placeOf, withChange, outside, joinedWith, everyMajority, askedBoxes}
 use Rattle.devices.specs.declared.Step.{Step}
 use Rattle.devices.specs.declared.Step.the-variants.{Ask, Advance, Deliver}
+use Rattle.devices.specs.declared.Contents.{Contents}
 use Rattle.devices.specs.declared.Outcome.{Outcome}
-use Rattle.devices.specs.declared.Outcome.the-variants.{Done, Round, Committed, Adopted, Refused}
-use Rattle.devices.specs.Contents.{freshContents, freshTablet, merged}
-use Rattle.devices.specs.Effects.{copies, refuse}
+use Rattle.devices.specs.declared.Outcome.the-variants.{Committed}
+use Rattle.devices.specs.Contents.{freshContents, merged}
+use Rattle.devices.specs.Effects.{answerOf, copies, refuse}
 use Rattle.rules.specs.Rules.{begun, askWith, askPair, ask, marked, deliver, decided, allowed, steady, commit, adoptOr, advanceFrom, advance, ruled, effectOf}
 use Rattle.state.specs.declared.Run.{Run}
 use Rattle.state.specs.declared.Stepped.{Stepped}
 use Rattle.state.specs.Slots.{all, many, laid}
 use Rattle.state.specs.State.{fresh, allDifferent, properDesk, proper}
-use Rattle.parlour.specs.Steps.{hereAt, applied, takenIf, taken}
-use Rattle.promise.specs.Promise.{after}
+use Rattle.parlour.specs.Steps.{hereAt, applied, takenIf, taken, StepPromise}
+use Rattle.parlour.specs.Statements.{tabletAt}
+use Rattle.promise.specs.Promise.{after, HandsBack, accepted}
 
--- what a version makes of a step and a state; it meets the contract where that is what the rules make of them
+-- what a version makes of a step and a state; it meets the contract where each result does
 abbrev pub Version : Type 0
 Version = Step → Run → Stepped
 
 abbrev pub Meets : Version → Type 0
-Meets version = (step : Step) (r : Run) → version step r ≡ taken step r
+Meets version = (step : Step) (r : Run) → StepPromise step r (version step r)
 
 -- ---- The states of that tape
 
@@ -46,30 +51,24 @@ oneHeard = after 0x0007 (Deliver 0 ∷ asks ∷ [])
 abbrev pub answered : Run
 answered = after 0x0007 (Deliver 1 ∷ Deliver 0 ∷ Deliver 1 ∷ Deliver 0 ∷ asks ∷ [])
 
--- what tells one outcome from another: a number for each kind
-unfoldable pub kind : Outcome → ℕ
-kind Done = 0
-kind (Round n) = 1
-kind (Committed b) = 2
-kind (Adopted b) = 3
-kind (Refused n) = 4
+-- the book that its Advance hands back: note 0, which tablet 0 asked, and the first boxes
+abbrev pub itsBook : Book
+itsBook = record { notes = notesOf 0x1; config = record { added = 0x0007; removed = 0x0000 } }
 
-abbrev pub roundOf : Run → ℕ
-roundOf r = getD (r .tablets) 0 freshTablet .round
-
--- the candidates that box 1, device 9, keeps
-abbrev pub boxOne : Run → ℕ
-boxOne r = getD (r .devices) 9 (freshContents 0) .candidates .set
+-- box 1, device 9, has note 0 among its candidates
+abbrev pub boxOneHasIt : List Contents → Bool
+boxOneHasIt devices = hasNote 0 (getD devices 9 (freshContents 0) .candidates)
 
 -- ---- The useless versions, as what is said of one
 
 -- refuses all
 abbrev pub RefusesAll : Version → Type 0
-RefusesAll version = (step : Step) (r : Run) → kind (version step r .outcome) ≡ 4
+RefusesAll version = (step : Step) (r : Run) → accepted (version step r .outcome) ≡ false
 
--- always hands back the first book: no Advance commits another
+-- always hands back the first book: whatever book an answer hands back, committed or adopted, is the first
 abbrev pub HandsBackTheFirst : Version → Type 0
-HandsBackTheFirst version = (t : ℕ) (r : Run) → version (Advance t) r .outcome ≡ Adopted (freshContents (r .first) .v)
+HandsBackTheFirst version =
+    (step : Step) (r : Run) (book : Book) → HandsBack (version step r .outcome) book → book ≡ freshContents (r .first) .v
 
 -- does nothing
 abbrev pub DoesNothing : Version → Type 0
@@ -79,37 +78,33 @@ DoesNothing version = (step : Step) (r : Run) → version step r .run ≡ r
 abbrev pub OnlyFrees : Version → Type 0
 OnlyFrees version = (slot : ℕ) → version (Deliver slot) oneHeard .run .devices ≡ oneHeard .devices
 
--- invents round numbers: the first ask of a fresh run begins another round than 1
-abbrev pub InventsRounds : Version → Type 0
-InventsRounds version = (roundOf (version asks fresh7 .run) ≡ 1) → ⊥
-
 -- ---- What the rules do there
 
 record Facts : Type 0 where
-  accepted : kind (taken asks fresh7 .outcome) ≡ 0
-  committed : kind (taken (Advance 0) answered .outcome) ≡ 2
-  begun-at-one : roundOf (taken asks fresh7 .run) ≡ 1
-  fresh-at-none : roundOf fresh7 ≡ 0
-  heard-by-box-one : boxOne (taken (Deliver 1) oneHeard .run) ≡ 1
-  not-before : boxOne oneHeard ≡ 0
+  accepts : accepted (taken asks fresh7 .outcome) ≡ true
+  commits : taken (Advance 0) answered .outcome ≡ Committed itsBook
+  has-its-note : hasNote 0 (itsBook .notes) ≡ true
+  first-has-not : hasNote 0 (freshContents (answered .first) .v .notes) ≡ false
+  begun-at-one : tabletAt 0 (taken asks fresh7 .run) .round ≡ 1
+  fresh-at-none : tabletAt 0 fresh7 .round ≡ 0
+  heard-by-box-one : boxOneHasIt (taken (Deliver 1) oneHeard .run .devices) ≡ true
+  not-before : boxOneHasIt (oneHeard .devices) ≡ false
 
 facts : Facts
-unfolding kind after taken takenIf applied hereAt effectOf ruled ask askPair askWith begun marked deliver decided allowed steady commit adoptOr
+unfolding after taken takenIf applied hereAt effectOf ruled ask askPair askWith begun marked deliver decided allowed steady commit adoptOr
     advanceFrom advance refuse copies merged firstPlace placeOf withChange outside joinedWith everyMajority askedBoxes times each unions howMany those weigh one majority
     majorityOf ownNotes fresh allDifferent properDesk proper all many laid
 facts =
     record {
-      accepted = refl;
-      committed = refl;
+      accepts = refl;
+      commits = refl;
+      has-its-note = refl;
+      first-has-not = refl;
       begun-at-one = refl;
       fresh-at-none = refl;
       heard-by-box-one = refl;
       not-before = refl;
     }
-
--- two numbers that differ
-differ : {n m : ℕ} → n ≡ 0 → m ≡ 1 → n ≡ m → ⊥
-differ p q e = lt-irrefl 0 (omega arith)
 
 -- ---- Demand 2 shuts out each: no version that meets the contract is one of them
 
@@ -118,20 +113,29 @@ pub record ShutOut (version : Version) : Type 0 where
   pub hands-back-the-first : HandsBackTheFirst version → ⊥
   pub does-nothing : DoesNothing version → ⊥
   pub only-frees : OnlyFrees version → ⊥
-  pub invents-rounds : InventsRounds version → ⊥
 
 pub shut-out : (version : Version) → Meets version → ShutOut version
-unfolding kind
 shut-out version meets =
     record {
-      refuses-all =
-          λ h. lt-irrefl 0 (omega (arith, facts .accepted, sym (ap (λ (s : Stepped). kind (s .outcome)) (meets asks fresh7)) ∙ h asks fresh7));
-      hands-back-the-first =
-          λ h. lt-irrefl 0 (omega (arith, facts .committed, sym (ap (λ (s : Stepped). kind (s .outcome)) (meets (Advance 0) answered)) ∙ ap kind (h 0 answered)));
+      refuses-all = λ h. true≢false (sym (facts .accepts) ∙ sym (ap (λ (s : Stepped). accepted (s .outcome)) (meets asks fresh7 .settled)) ∙ h asks fresh7);
+      hands-back-the-first = λ h. not-the-first (h (Advance 0) answered itsBook commits);
       does-nothing =
-          λ h. differ (facts .fresh-at-none) (facts .begun-at-one) (sym (ap roundOf (h asks fresh7)) ∙ ap (λ (s : Stepped). roundOf (s .run)) (meets asks fresh7));
+          λ h.
+          lt-irrefl 0 (omega (
+            arith,
+            facts .fresh-at-none,
+            facts .begun-at-one,
+            sym (ap (λ (r : Run). tabletAt 0 r .round) (h asks fresh7)) ∙ ap (λ (s : Stepped). tabletAt 0 (s .run) .round) (meets asks fresh7 .settled),
+          ));
       only-frees =
-          λ h. differ (facts .not-before) (facts .heard-by-box-one)
-          (sym (ap (λ (l : List _). getD l 9 (freshContents 0) .candidates .set) (h 1)) ∙ ap (λ (s : Stepped). boxOne (s .run)) (meets (Deliver 1) oneHeard));
-      invents-rounds = λ h. h (ap (λ (s : Stepped). roundOf (s .run)) (meets asks fresh7) ∙ facts .begun-at-one);
+          λ h.
+          true≢false (sym (facts .heard-by-box-one) ∙ ap (λ (s : Stepped). boxOneHasIt (s .run .devices)) (sym (meets (Deliver 1) oneHeard .settled))
+          ∙ ap boxOneHasIt (h 1) ∙ facts .not-before);
     }
+  where
+    commits : HandsBack (version (Advance 0) answered .outcome) itsBook
+    commits = inl (ap (λ (s : Stepped). answerOf (s .outcome) .committed) (meets (Advance 0) answered .settled) ∙ ap (λ (o : Outcome). answerOf o .committed) (facts .commits))
+
+    -- the first book has not the note
+    not-the-first : itsBook ≡ freshContents (answered .first) .v → ⊥
+    not-the-first e = true≢false (sym (facts .has-its-note) ∙ ap (λ (b : Book). hasNote 0 (b .notes)) e ∙ facts .first-has-not)

@@ -7,7 +7,7 @@ use mathlib.Core.List.{List, [], _∷_}
 use Rattle.sets.specs.Bounded.{times, each, unions, howMany, those}
 use Rattle.sets.specs.Majority.{weigh, one, majority, majorityOf}
 use Rattle.books.specs.declared.Book.{Book}
-use Rattle.books.specs.Books.{ownNotes, noConfig}
+use Rattle.books.specs.Books.{notesOf, ownNotes, noConfig}
 use Rattle.books.specs.Queried.{firstPlace, placeOf, outside, joinedWith, everyMajority, askedBoxes}
 use Rattle.devices.specs.declared.Step.{Step}
 use Rattle.devices.specs.declared.Step.the-variants.{Ask, Advance, Deliver}
@@ -35,7 +35,7 @@ printed = Advance 0 ∷ delivered
 
 -- "5 ADV 0 C 0000000000000001 0007 0000"
 abbrev book : Book
-book = record { notes = record { set = 0x1 }; config = record { added = 0x7; removed = 0 } }
+book = record { notes = notesOf 0x1; config = record { added = 0x7; removed = 0 } }
 
 -- "Tablet 0 asks note 0, tablet 1 asks note 8. Box 0 hears tablet 0 first, and tablet 1 has answers from 0 and 1: its Advance gives R 2"
 abbrev at-once : List Step
