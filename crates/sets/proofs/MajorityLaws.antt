@@ -1,11 +1,10 @@
 -- Laws of weights and majorities. The main one: two majorities of one configuration share a member, by any weights (`majorities-meet`).
 use Prim.Native.Nat.{ℕ, zero, suc, _+_, _*_, _<_, _≤_, min}
 use mathlib.Core.Bool.{Bool, true, false}
-use mathlib.Core.Path.{_≡_, refl, sym, ap}
+use mathlib.Core.Path.{_≡_, refl}
 use mathlib.Core.Logic.{_⊎_, inl, inr, ⊎-elim}
 use native.Mathlib.Nat.{mul-le-mul-right, lt-irrefl}
 use native.Mathlib.Omega.{arith}
-use lib.Dec.{ltb}
 use borrow.Author.Tests.{ltb-true}
 use Rattle.sets.specs.Sets.{digit, shared}
 use Rattle.sets.specs.Majority.{weigh, majority}
@@ -69,4 +68,4 @@ no-members-no-majority w answered = go (majority w 0 answered) refl
 -- boxes that answered and are no members count for nothing
 pub members-only : (w : ℕ → ℕ) (boxes answered : ℕ) → majority w boxes answered ≡ majority w boxes (shared boxes answered)
 unfolding majority
-members-only w boxes answered = ap (λ (s : ℕ). ltb (weigh w 16 boxes) (2 * weigh w 16 s)) (sym (shared-again boxes answered))
+members-only w boxes answered = rw (shared-again boxes answered)
