@@ -2,7 +2,7 @@
 use Prim.Native.Nat.{ℕ, _^_}
 use mathlib.Core.Bool.{true, false}
 use mathlib.Core.Path.{_≡_, refl}
-use lib.ListN.{replicate, set}
+use lib.ListN.{replicate}
 use Rattle.sets.specs.Bounded.{times, each, unions, those}
 use Rattle.sets.specs.Majority.{weigh, one, majority, majorityOf}
 use Rattle.books.specs.declared.Notes.{Notes}

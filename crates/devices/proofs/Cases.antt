@@ -1,11 +1,11 @@
 -- The cases of the definitions, as equations on plain values: each return of a function cites one.
-use Prim.Native.Nat.{ℕ, _+_, _-_, _*_, _%_, _^_, _≤_, _<_}
+use Prim.Native.Nat.{ℕ, _-_, _*_, _%_, _^_, _≤_, _<_}
 use mathlib.Core.Bool.{false}
 use mathlib.Core.Path.{_≡_, sym, ap, _∙_}
 use native.Mathlib.Omega.{arith}
-use lib.Pow.{shl-exact}
 use borrow.Author.Tests.{lt-ltb, le-ltb, le-leb, lt-leb}
 use Rattle.sets.specs.Sets.{union}
+use Rattle.sets.proofs.SetLaws.{one-shifted}
 use Rattle.sets.proofs.BoundedLaws.{pick-true, pick-false}
 use Rattle.books.specs.declared.Notes.{Notes}
 use Rattle.books.specs.declared.Book.{Book}
@@ -13,16 +13,13 @@ use Rattle.books.specs.declared.Listed.{Listed}
 use Rattle.books.specs.Books.{joinNotes, joinBooks}
 use Rattle.books.specs.Queried.{outside}
 use Rattle.devices.specs.declared.Contents.{Contents}
-use Rattle.devices.specs.declared.Letter.{Letter}
-use Rattle.devices.specs.declared.Notice.{Notice}
 use Rattle.devices.specs.declared.Message.{Message}
-use Rattle.devices.specs.declared.Message.the-variants.{Request, Answer, Commit}
 use Rattle.devices.specs.declared.Outcome.{Outcome}
-use Rattle.devices.specs.declared.Outcome.the-variants.{Committed, Adopted, Refused}
+use Rattle.devices.specs.declared.Outcome.the-variants.{Refused}
 use Rattle.devices.specs.declared.Sending.{Sending}
 use Rattle.devices.specs.declared.Here.{Here}
 use Rattle.devices.specs.Contents.{merged}
-use Rattle.devices.specs.Effects.{keptAfter, only, boxOf, letterTo, addressed, noSending, refuse}
+use Rattle.devices.specs.Effects.{keptAfter, only, boxOf, addressed, noSending, refuse}
 
 -- ---- Merging
 
@@ -34,30 +31,17 @@ merged-is listed mine theirs p q s = rw (s, q, p)
 
 -- ---- The kept join
 
-pub kept-committed : (kept : Book) {o : Outcome} {b next : Book} → o ≡ Committed b → next ≡ joinBooks kept b → next ≡ keptAfter o kept
-kept-committed kept p q = q ∙ ap (λ (x : Outcome). keptAfter x kept) (sym p)
-
-pub kept-adopted : (kept : Book) {o : Outcome} {b next : Book} → o ≡ Adopted b → next ≡ joinBooks kept b → next ≡ keptAfter o kept
-kept-adopted kept p q = q ∙ ap (λ (x : Outcome). keptAfter x kept) (sym p)
+-- by the case that was met
+pub kept-as : (kept : Book) {o p : Outcome} {next : Book} → o ≡ p → next ≡ keptAfter p kept → next ≡ keptAfter o kept
+kept-as kept p q = q ∙ ap (λ (x : Outcome). keptAfter x kept) (sym p)
 
 -- ---- Addressing
 
-pub addressed-request : (d : ℕ) {m : Message} {l k : Letter} → m ≡ Request l → k ≡ letterTo l d → Request k ≡ addressed m d
-addressed-request d p q = ap Request q ∙ ap (λ (x : Message). addressed x d) (sym p)
-
-pub addressed-answer : (d : ℕ) {m : Message} {l k : Letter} → m ≡ Answer l → k ≡ letterTo l d → Answer k ≡ addressed m d
-addressed-answer d p q = ap Answer q ∙ ap (λ (x : Message). addressed x d) (sym p)
-
-pub addressed-commit : (d : ℕ) {m : Message} {n : Notice} → m ≡ Commit n
-    → Commit (record { from = n .from; to = d; book = n .book }) ≡ addressed m d
-addressed-commit d p = ap (λ (x : Message). addressed x d) (sym p)
+-- by the case that was met
+pub addressed-as : (d : ℕ) {m n r : Message} → m ≡ n → r ≡ addressed n d → r ≡ addressed m d
+addressed-as d p q = q ∙ ap (λ (x : Message). addressed x d) (sym p)
 
 -- ---- Sets of one
-
-one-shifted : (k w : ℕ) → 1 + k ≤ w → 1 * 2 ^ k % 2 ^ w ≡ 2 ^ k
-one-shifted k w h =
-    let e : 1 * 2 ^ k ≡ 2 ^ k = omega arith in
-    shl-exact 1 k w (omega arith) h ∙ e
 
 pub only-in : (d : ℕ) → d < 24 → 1 * 2 ^ d % 4294967296 ≡ only d
 only-in d h = one-shifted d 32 (omega arith) ∙ pick-true (2 ^ d) 0 (lt-ltb d 24 h)

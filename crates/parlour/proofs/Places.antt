@@ -4,10 +4,10 @@ use mathlib.Core.Bool.{Bool, true, false}
 use mathlib.Core.Path.{_≡_, refl, sym, ap, _∙_}
 use native.Mathlib.Omega.{arith}
 use lib.Dec.{ltb}
-use lib.Pow.{shl-exact}
 use borrow.Author.Tests.{lt-ltb, le-ltb, ltb-true, leb-true}
 use Rattle.sets.specs.Choice.{pick}
 use Rattle.sets.specs.Sets.{union}
+use Rattle.sets.proofs.SetLaws.{one-shifted}
 use Rattle.sets.proofs.BoundedLaws.{pick-true, pick-false}
 use Rattle.devices.specs.declared.Message.{Message}
 use Rattle.devices.specs.declared.Step.{Step}
@@ -61,6 +61,4 @@ device-named k (Device n) m h p = sym (within-in 24 n (omega (arith, leb-true n 
 
 -- a device is stopped by a union
 pub stopped-one : (stopped d : ℕ) → d < 24 → union stopped (1 * 2 ^ d % 4294967296) ≡ union stopped (2 ^ d)
-stopped-one stopped d h =
-    let e : 1 * 2 ^ d ≡ 2 ^ d = omega arith in
-    ap (union stopped) (shl-exact 1 d 32 (omega arith) (omega arith) ∙ e)
+stopped-one stopped d h = ap (union stopped) (one-shifted d 32 (omega arith))

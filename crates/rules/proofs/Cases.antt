@@ -110,11 +110,6 @@ module _ (tablet own : ℕ) (pair : Config) (h : Here) {e : Effect} where
       let k : h .listed .count ≤ placeOf (h .listed) pair = rw (← q) l in
       passed _ _ i (passed _ _ (le-ltb _ _ k) (passed _ _ (le-ltb _ _ n) (rw m at p)))
 
-pub one-change : (k : ℕ) → k < 8 → 1 * 2 ^ k % 256 ≡ 2 ^ k
-one-change k h =
-    let e : 1 * 2 ^ k ≡ 2 ^ k = omega arith in
-    shl-exact 1 k 8 (omega arith) (omega arith) ∙ e
-
 -- ---- By the phase, the message, the step: what holds of the case that was met
 
 pub ask-as : (tablet own : ℕ) (pair : Config) (h : Here) {p q : Phase} {e : Effect} → p ≡ q → e ≡ askIn tablet own pair q h → e ≡ askIn tablet own pair p h

@@ -52,6 +52,24 @@ pick-true a b e = ap (λ (x : Bool). pick x a b) (sym e)
 pub pick-false : {A : Type 0} {t : Bool} (a b : A) → t ≡ false → b ≡ pick t a b
 pick-false a b e = ap (λ (x : Bool). pick x a b) (sym e)
 
+-- ---- What grows by one number after the other
+
+-- one turn of a loop that grows it
+one-more : {A : Type 0} (grow : ℕ → A → A) (all : ℕ → A) → ((k : ℕ) → all (suc k) ≡ grow k (all k)) → (k : ℕ) {cur next : A}
+    → cur ≡ all k → next ≡ grow k cur → next ≡ all (k + 1)
+one-more grow all more k p q = q ∙ ap (grow k) p ∙ sym (more k) ∙ ap all (sym (add-one k))
+
+-- numbers that add nothing need no look
+no-more : {A : Type 0} (join : A → A → A) (none : A) → ((a : A) → join a none ≡ a) → (all f : ℕ → A)
+    → ((k : ℕ) → all (suc k) ≡ join (all k) (f k)) → (j k : ℕ) → j ≤ k → ((n : ℕ) → j ≤ n → n < k → f n ≡ none) → all j ≡ all k
+no-more join none nothing all f more j zero l h = ap all (eq-zero l)
+no-more join none nothing all f more j (suc k) l h =
+    ⊎-elim (λ e. ap all e)
+    (λ m.
+    no-more join none nothing all f more j k (le-of-suc-le-suc m) (λ n a b. h n a (omega arith)) ∙ sym (nothing (all k))
+    ∙ ap (join (all k)) (sym (h k (le-of-suc-le-suc m) (omega arith))) ∙ sym (more k))
+    (eq-or-lt-of-le l)
+
 -- ---- One after the other
 
 pub times-zero : {A : Type 0} (f : ℕ → A → A) (a : A) → a ≡ times f 0 a
@@ -60,7 +78,7 @@ times-zero f a = refl
 
 pub times-on : {A : Type 0} (f : ℕ → A → A) (k : ℕ) (a : A) {cur next : A} → cur ≡ times f k a → next ≡ f k cur → next ≡ times f (k + 1) a
 unfolding times
-times-on f k a p q = q ∙ ap (f k) p ∙ ap (λ (n : ℕ). times f n a) (sym (add-one k))
+times-on f k a = one-more f (λ (n : ℕ). times f n a) (λ n. refl) k
 
 -- ---- Of each
 
@@ -70,7 +88,7 @@ each-zero p = refl
 
 pub each-on : (p : ℕ → Bool) (k : ℕ) {cur next : Bool} → cur ≡ each k p → next ≡ both cur (p k) → next ≡ each (k + 1) p
 unfolding each
-each-on p k h e = e ∙ ap (λ (b : Bool). both b (p k)) h ∙ ap (λ (n : ℕ). each n p) (sym (add-one k))
+each-on p k = one-more (λ (n : ℕ) (b : Bool). both b (p n)) (λ (n : ℕ). each n p) (λ n. refl) k
 
 -- what holds of each holds of one
 pub each-at : (k : ℕ) (p : ℕ → Bool) → each k p ≡ true → (n : ℕ) → n < k → p n ≡ true
@@ -90,13 +108,7 @@ at-each (suc k) p h = both-on (each k p) (p k) (at-each k p (λ n l. h n (omega 
 -- numbers of which the test holds anyway need no look
 pub each-rest : (p : ℕ → Bool) (j k : ℕ) → j ≤ k → ((n : ℕ) → j ≤ n → n < k → p n ≡ true) → each j p ≡ each k p
 unfolding each
-each-rest p j zero l h = ap (λ (n : ℕ). each n p) (eq-zero l)
-each-rest p j (suc k) l h =
-    ⊎-elim (λ e. ap (λ (n : ℕ). each n p) e)
-    (λ m.
-    each-rest p j k (le-of-suc-le-suc m) (λ n a b. h n a (omega arith)) ∙ sym (both-yes (each k p))
-    ∙ ap (both (each k p)) (sym (h k (le-of-suc-le-suc m) (omega arith))))
-    (eq-or-lt-of-le l)
+each-rest p = no-more both true both-yes (λ (n : ℕ). each n p) p (λ n. refl)
 
 -- ---- Unions
 
@@ -106,18 +118,12 @@ unions-zero f = refl
 
 pub unions-on : (f : ℕ → ℕ) (k : ℕ) {cur next : ℕ} → cur ≡ unions k f → next ≡ union cur (f k) → next ≡ unions (k + 1) f
 unfolding unions
-unions-on f k h e = e ∙ ap (λ (s : ℕ). union s (f k)) h ∙ ap (λ (n : ℕ). unions n f) (sym (add-one k))
+unions-on f k = one-more (λ (n s : ℕ). union s (f n)) (λ (n : ℕ). unions n f) (λ n. refl) k
 
 -- sets that are empty add nothing
 pub unions-rest : (f : ℕ → ℕ) (j k : ℕ) → j ≤ k → ((n : ℕ) → j ≤ n → n < k → f n ≡ 0) → unions j f ≡ unions k f
 unfolding unions
-unions-rest f j zero l h = ap (λ (n : ℕ). unions n f) (eq-zero l)
-unions-rest f j (suc k) l h =
-    ⊎-elim (λ e. ap (λ (n : ℕ). unions n f) e)
-    (λ m.
-    unions-rest f j k (le-of-suc-le-suc m) (λ n a b. h n a (omega arith)) ∙ sym (or-zero-r (unions k f))
-    ∙ ap (union (unions k f)) (sym (h k (le-of-suc-le-suc m) (omega arith))))
-    (eq-or-lt-of-le l)
+unions-rest f = no-more union 0 or-zero-r (λ (n : ℕ). unions n f) f (λ n. refl)
 
 -- ---- The set of those of which a test holds
 

@@ -16,6 +16,14 @@ pair {A} {B} p q = ap₂ (λ (a : A) (b : B). (a, b)) p q
 true-not-false : true ≡ false → ⊥
 true-not-false e = let z : _≡_ {A = ℕ} 0 1 = cc in omega arith
 
+-- two tests, each of one part, tell of the pair what each tells of its part
+module _ {A B : Type 0} (x y : A × B) (s t : Bool) where
+  both-pair : (s ≡ true → x .0 ≡ y .0) → (t ≡ true → x .1 ≡ y .1) → both s t ≡ true → x ≡ y
+  both-pair f g h = pair (f (both-left s t h)) (g (both-right s t h))
+
+  pair-both : (x .0 ≡ y .0 → s ≡ true) → (x .1 ≡ y .1 → t ≡ true) → x ≡ y → both s t ≡ true
+  pair-both f g e = both-on s t (f (ap (λ (p : A × B). p .0) e)) (g (ap (λ (p : A × B). p .1) e))
+
 -- ---- Joining and containment
 
 module _ {X A : Type 0} {inside : A → A → Bool} {join : A → A → A} (part : X → A) (make : A → X)
@@ -42,13 +50,9 @@ module _ {A B : Type 0} {insideA : A → A → Bool} {joinA : A → A → A} {in
         comm = λ x y. pair (l .comm (x .0) (y .0)) (m .comm (x .1) (y .1));
         idem = λ x. pair (l .idem (x .0)) (m .idem (x .1));
         inside-eq =
-            λ x y h.
-            pair (l .inside-eq (x .0) (y .0) (both-left (insideA (x .0) (y .0)) (insideB (x .1) (y .1)) h))
-            (m .inside-eq (x .1) (y .1) (both-right (insideA (x .0) (y .0)) (insideB (x .1) (y .1)) h));
+            λ x y. both-pair _ _ (insideA (x .0) (y .0)) (insideB (x .1) (y .1)) (l .inside-eq (x .0) (y .0)) (m .inside-eq (x .1) (y .1));
         eq-inside =
-            λ x y e.
-            both-on (insideA (x .0) (y .0)) (insideB (x .1) (y .1)) (l .eq-inside (x .0) (y .0) (ap (λ (p : A × B). p .0) e))
-            (m .eq-inside (x .1) (y .1) (ap (λ (p : A × B). p .1) e));
+            λ x y. pair-both _ _ (insideA (x .0) (y .0)) (insideB (x .1) (y .1)) (l .eq-inside (x .0) (y .0)) (m .eq-inside (x .1) (y .1));
       }
 
 -- ---- Equality
@@ -73,14 +77,8 @@ pub decided-of-two : {A B : Type 0} {sameA : A → A → Bool} {sameB : B → B 
     → Decides (λ (x y : A × B). both (sameA (x .0) (y .0)) (sameB (x .1) (y .1)))
 decided-of-two {A} {B} {sameA} {sameB} d e =
     record {
-      same-eq =
-          λ x y h.
-          pair (d .same-eq (x .0) (y .0) (both-left (sameA (x .0) (y .0)) (sameB (x .1) (y .1)) h))
-          (e .same-eq (x .1) (y .1) (both-right (sameA (x .0) (y .0)) (sameB (x .1) (y .1)) h));
-      eq-same =
-          λ x y q.
-          both-on (sameA (x .0) (y .0)) (sameB (x .1) (y .1)) (d .eq-same (x .0) (y .0) (ap (λ (p : A × B). p .0) q))
-          (e .eq-same (x .1) (y .1) (ap (λ (p : A × B). p .1) q));
+      same-eq = λ x y. both-pair x y (sameA (x .0) (y .0)) (sameB (x .1) (y .1)) (d .same-eq (x .0) (y .0)) (e .same-eq (x .1) (y .1));
+      eq-same = λ x y. pair-both x y (sameA (x .0) (y .0)) (sameB (x .1) (y .1)) (d .eq-same (x .0) (y .0)) (e .eq-same (x .1) (y .1));
     }
 
 module _ {A : Type 0} {same : A → A → Bool} (d : Decides same) where

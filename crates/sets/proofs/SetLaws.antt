@@ -1,6 +1,6 @@
 -- Laws of sets of small numbers, proved once for any width by the digits of the numbers that they are:
 -- what is in a union, in what two sets share, and among the members; containment and union are a semilattice (`sets-joined`).
-use Prim.Native.Nat.{ℕ, zero, suc, _+_, _-_, _/_, _%_, _^_, _<_, _≤_, min, max}
+use Prim.Native.Nat.{ℕ, zero, suc, _+_, _-_, _*_, _/_, _%_, _^_, _<_, _≤_, min, max}
 use mathlib.Core.Bool.{Bool, true, false}
 use mathlib.Core.Path.{_≡_, refl, sym, ap, ap₂, _∙_}
 use mathlib.Core.Logic.{_⊎_, inl, inr, ⊎-elim}
@@ -8,7 +8,7 @@ use native.Mathlib.Nat.{div-one, max-eq-right, div-eq-of-lt, lt-of-lt-of-le, lt-
 use native.Mathlib.Omega.{arith}
 use native.Mathlib.Numerals.{one-add}
 use lib.Arith.{half-le}
-use lib.Pow.{shr-shr, pow-mono, field, mod-mod-pow}
+use lib.Pow.{shr-shr, shl-exact, pow-mono, field, mod-mod-pow}
 use lib.Bits.{bitAnd, bitOr, or-step, and-step, or-shr, and-shr, and-le-l, and-le-r, or-comm, or-self, or-lt, or-add-and}
 use borrow.Author.Tests.{eqb-true, eq-eqb}
 use Rattle.sets.specs.Sets.{digit, has, union, shared, members, inside}
@@ -71,6 +71,12 @@ pub digit-low : (n k a : ℕ) → n < k → digit n (a % 2 ^ k) ≡ digit n a
 digit-low n k a h =
     let e : (k - 1 - n) + 1 + n ≡ k = omega arith in
     rw e at (digit-low-go (k - 1 - n) n a)
+
+-- the set of one number, as a shift in w bits makes it
+pub one-shifted : (k w : ℕ) → k < w → 1 * 2 ^ k % 2 ^ w ≡ 2 ^ k
+one-shifted k w h =
+    let e : 1 * 2 ^ k ≡ 2 ^ k = omega arith in
+    shl-exact 1 k w (omega arith) (omega arith) ∙ e
 
 -- ---- Two sets with the same members are equal
 

@@ -2,10 +2,14 @@ use Prim.Native.Nat.{_≤_, _-_}
 use mathlib.Core.Path.{_≡_, _∙_}
 use mathlib.Core.Logic.{⊎-elim}
 use native.Mathlib.Omega.{arith}
+use lib.Bits.{or-zero-r}
 use borrow.Author.Tests.{eq-eqb, ne-eqb}
+use Rattle.sets.specs.Sets.{union}
 use Rattle.sets.specs.Bounded.{unions}
-use Rattle.sets.proofs.BoundedLaws.{unions-zero, unions-on}
-use Rattle.books.proofs.Turns.{queriedBoxes, boxes-in, boxes-out, boxes-end}
+use Rattle.sets.proofs.BoundedLaws.{unions-zero, unions-on, unions-rest}
+use Rattle.books.specs.Books.{membersOf}
+use Rattle.books.specs.Queried.{askedBoxes}
+use Rattle.books.proofs.Turns.{queriedBoxes, queried-in, queried-out, queried-past}
 use Rattle.books.proofs.asked_boxes.Statement.{statement}
 use Rattle.books.proofs.asked_boxes.Tie as tie
 
@@ -44,21 +48,24 @@ loop-again c =
     (λ w. (
       omega arith,
       unions-on f (l .subset) (l .inv .1)
-          (w .3 ∙ boxes-in (a .listed) (a .config) (a .t) (l .subset) (w .1 .ensures) (eq-eqb _ _ (w .0 .taken)) (l .boxes) (w .2 .ensures)),
+          (w .3 ∙ queried-in membersOf 0 (a .listed) (a .config) (a .t) union (l .subset) (l .boxes) (w .1 .ensures) (eq-eqb _ _ (w .0 .taken)) (w .2 .ensures)),
     ))
     (λ w. (
       omega arith,
       unions-on f (l .subset) (l .inv .1)
-          (w .1 ∙ boxes-out (a .listed) (a .config) (a .t) (l .subset) (ne-eqb _ _ (w .0 .left)) (l .boxes)),
+          (w .1 ∙ queried-out membersOf 0 (a .listed) (a .config) (a .t) union or-zero-r (l .subset) (l .boxes) (ne-eqb _ _ (w .0 .left))),
     ))
     (c .if1 .came)
 
 returns : tie.Need-returns Inv-loop μ-loop
+unfolding askedBoxes
 returns c =
     let l = c .before .loop in
     let a = c .before .before .before .args in
     let e : l .subset ≡ c .before .before .subsets-end .result = omega arith in
-    (rw e at (l .inv .1)) ∙ boxes-end (a .listed) (a .config) (a .t) _ (c .before .before .subsets-end .ensures)
+    let end = c .before .before .subsets-end in
+    (rw e at (l .inv .1))
+    ∙ unions-rest (queriedBoxes (a .listed) (a .config) (a .t)) _ 64 (end .ensures .0) (queried-past membersOf 0 (a .listed) (a .config) (a .t) _ (end .ensures .1))
 
 pub asked-boxes-spec : {M : Type 1} → statement M
 asked-boxes-spec =

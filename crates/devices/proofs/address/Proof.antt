@@ -1,5 +1,7 @@
+use mathlib.Core.Path.{refl, ap}
 use borrow.Author.Needs.{needs}
-use Rattle.devices.proofs.Cases.{addressed-request, addressed-answer, addressed-commit}
+use Rattle.devices.specs.declared.Message.the-variants.{Request, Answer}
+use Rattle.devices.proofs.Cases.{addressed-as}
 use Rattle.devices.proofs.address.Statement.{statement}
 use Rattle.devices.proofs.address.Tie as tie
 
@@ -25,13 +27,13 @@ returns : tie.Need-returns
 returns c = search needs
 
 returns-2 : tie.Need-returns-2
-returns-2 c = addressed-request _ (c .before .before .m .given .1) (c .address-letter .ensures)
+returns-2 c = addressed-as _ (c .before .before .m .given .1) (ap Request (c .address-letter .ensures))
 
 returns-3 : tie.Need-returns-3
-returns-3 c = addressed-answer _ (c .before .before .m2 .given .1) (c .address-letter2 .ensures)
+returns-3 c = addressed-as _ (c .before .before .m2 .given .1) (ap Answer (c .address-letter2 .ensures))
 
 returns-4 : tie.Need-returns-4
-returns-4 c = addressed-commit _ (c .before .before .m3 .given .1)
+returns-4 c = addressed-as _ (c .before .before .m3 .given .1) refl
 
 pub address-spec : {M : Type 1} → statement M
 address-spec =

@@ -1,5 +1,5 @@
 use borrow.Author.Needs.{needs}
-use Rattle.devices.proofs.Cases.{kept-committed, kept-adopted}
+use Rattle.devices.proofs.Cases.{kept-as}
 use Rattle.devices.proofs.kept_after.Statement.{statement}
 use Rattle.devices.proofs.kept_after.Tie as tie
 
@@ -31,10 +31,10 @@ returns-2 : tie.Need-returns-2
 returns-2 c = search needs
 
 returns-3 : tie.Need-returns-3
-returns-3 c = kept-committed _ (c .before .before .outcome .given .1) (c .join-books .ensures)
+returns-3 c = kept-as _ (c .before .before .outcome .given .1) (c .join-books .ensures)
 
 returns-4 : tie.Need-returns-4
-returns-4 c = kept-adopted _ (c .before .before .outcome2 .given .1) (c .join-books2 .ensures)
+returns-4 c = kept-as _ (c .before .before .outcome2 .given .1) (c .join-books2 .ensures)
 
 returns-5 : tie.Need-returns-5
 returns-5 c = search needs
