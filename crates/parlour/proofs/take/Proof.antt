@@ -36,11 +36,11 @@ abbrev μ-loop2 : tie.MeasureT-loop2
     end - i
 
 abbrev Inv-loop3 : tie.InvT-loop3
-Inv-loop3 known run₀ n ok all z at d t end free i outcome sent to p₀ q₀ run p q =
+Inv-loop3 known run₀ n ok all z at d t end free i stopped outcome sent to p₀ q₀ run p q =
     Pass run₀ sent to p q run
 
 abbrev μ-loop3 : tie.MeasureT-loop3
-μ-loop3 known run₀ n ok all z at d t end free i outcome sent to p₀ q₀ run p q = (128 - p) + (24 - q)
+μ-loop3 known run₀ n ok all z at d t end free i stopped outcome sent to p₀ q₀ run p q = (128 - p) + (24 - q)
 
 -- a place of the code, or a need, with these invariants
 abbrev At : (tie.InvT-loop → tie.MeasureT-loop → tie.InvT-loop2 → tie.MeasureT-loop2 → tie.InvT-loop3 → tie.MeasureT-loop3 → Type 0) → Type 0
@@ -66,8 +66,11 @@ place c = c .before .before
 abbrev device : At tie.After-tablet-of → At tie.After-device-of
 device c = c .before
 
+abbrev tablet-here : At tie.After-contents → At tie.After-tablet-of
+tablet-here c = c .before
+
 abbrev tablet : At tie.After-counted → At tie.After-tablet-of
-tablet c = c .before .before .before
+tablet c = tablet-here (c .before .before)
 
 abbrev limit : At tie.At-loop2 → At tie.After-counted
 limit c = c .before
@@ -79,10 +82,13 @@ abbrev counted : At tie.After-effect-of → At tie.After-loop2
 counted c = c .before
 
 abbrev effect : At tie.After-freed → At tie.After-effect-of
-effect c = c .before .before .before .before
+effect c = c .before
+
+abbrev stored : At tie.After-listed-after → At tie.After-freed
+stored c = c .before .before .before
 
 abbrev freed : At tie.After-stopped-after → At tie.After-freed
-freed c = c .before
+freed c = stored (c .before)
 
 abbrev stopped : At tie.After-kept-after → At tie.After-stopped-after
 stopped c = c .before .before
@@ -203,10 +209,10 @@ element-copy-out-contents : At tie.Need-element-copy-out-contents
 element-copy-out-contents c = omega (arith, (device c) .device-of .ensures .1)
 
 mul-tablet : At tie.Need-mul-tablet
-mul-tablet c = omega (arith, c .before .tablet-of .ensures .1)
+mul-tablet c = omega (arith, (tablet-here c) .tablet-of .ensures .1)
 
 element-copy-out-tablet : At tie.Need-element-copy-out-tablet
-element-copy-out-tablet c = omega (arith, c .before .tablet-of .ensures .1)
+element-copy-out-tablet c = omega (arith, (tablet-here c) .tablet-of .ensures .1)
 
 counted-requires : At tie.Need-counted-requires
 counted-requires c κs = tt
@@ -249,11 +255,11 @@ loop2-again c =
 
 -- ---- The rule and the stores
 
-cast-t61 : At tie.Need-cast-t61
-cast-t61 c = omega (arith, device-low (limit (count c)))
+cast-stopped : At tie.Need-cast-stopped
+cast-stopped c = omega (arith, device-low (limit (count c)))
 
-shr-t62 : At tie.Need-shr-t62
-shr-t62 c = omega (arith, device-low (limit (count c)))
+shr-stopped : At tie.Need-shr-stopped
+shr-stopped c = omega (arith, device-low (limit (count c)))
 
 effect-of-requires : At tie.Need-effect-of-requires
 effect-of-requires c κs = tt
@@ -261,26 +267,26 @@ effect-of-requires c κs = tt
 freed-requires : At tie.Need-freed-requires
 freed-requires c κs = tt
 
-mul-t44 : At tie.Need-mul-t44
-mul-t44 c = omega (arith, slot-low (read-before c))
+mul-slot-after : At tie.Need-mul-slot-after
+mul-slot-after c = omega (arith, slot-low (read-before (stored c)))
 
-element-set-from-run : At tie.Need-element-set-from-run
-element-set-from-run c = omega (arith, slot-low (read-before c))
+element-set-from-slot-after : At tie.Need-element-set-from-slot-after
+element-set-from-slot-after c = omega (arith, slot-low (read-before (stored c)))
 
 mul-contents-after : At tie.Need-mul-contents-after
-mul-contents-after c = omega (arith, device-low (read-before c))
+mul-contents-after c = omega (arith, device-low (read-before (stored c)))
 
 element-set-from-contents-after : At tie.Need-element-set-from-contents-after
-element-set-from-contents-after c = omega (arith, device-low (read-before c))
+element-set-from-contents-after c = omega (arith, device-low (read-before (stored c)))
 
 mul-tablet-after : At tie.Need-mul-tablet-after
-mul-tablet-after c = omega (arith, tablet-low (read-before c))
+mul-tablet-after c = omega (arith, tablet-low (read-before (stored c)))
 
 element-set-from-tablet-after : At tie.Need-element-set-from-tablet-after
-element-set-from-tablet-after c = omega (arith, tablet-low (read-before c))
+element-set-from-tablet-after c = omega (arith, tablet-low (read-before (stored c)))
 
 stopped-after-requires : At tie.Need-stopped-after-requires
-stopped-after-requires c κs = omega (arith, device-low (read-before c))
+stopped-after-requires c κs = omega (arith, device-low (read-before (stored c)))
 
 kept-after-requires : At tie.Need-kept-after-requires
 kept-after-requires c κs = tt
@@ -314,11 +320,11 @@ cast-address c = omega (arith, lay-limit (lay-place (c .before)))
 address-requires : At tie.Need-address-requires
 address-requires c κs = tt
 
-mul-t87 : At tie.Need-mul-t87
-mul-t87 c = omega (arith, lay-limit (lay-place (c .before .before)))
+mul-filled : At tie.Need-mul-filled
+mul-filled c = omega (arith, lay-limit (lay-place (c .before .before)))
 
-element-set-from-run-2 : At tie.Need-element-set-from-run-2
-element-set-from-run-2 c = omega (arith, lay-limit (lay-place (c .before .before)))
+element-set-from-filled : At tie.Need-element-set-from-filled
+element-set-from-filled c = omega (arith, lay-limit (lay-place (c .before .before)))
 
 add-q : At tie.Need-add-q
 add-q c = omega (arith, lay-limit (lay-place (c .before .before)))
@@ -412,12 +418,12 @@ take-spec =
     add-i
     loop2-less
     loop2-again
-    cast-t61
-    shr-t62
+    cast-stopped
+    shr-stopped
     effect-of-requires
     freed-requires
-    mul-t44
-    element-set-from-run
+    mul-slot-after
+    element-set-from-slot-after
     mul-contents-after
     element-set-from-contents-after
     mul-tablet-after
@@ -432,8 +438,8 @@ take-spec =
     is-empty-requires-2
     cast-address
     address-requires
-    mul-t87
-    element-set-from-run-2
+    mul-filled
+    element-set-from-filled
     add-q
     add-p
     loop3-less
