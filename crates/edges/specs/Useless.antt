@@ -1,10 +1,11 @@
 -- The useless versions that 01 names ("How far a contract must reach"): what meets the contract of a step is none of them.
--- A version is what it makes of a step and a state. Each is met on the tape that 01 prints: first boxes 0, 1, 2; tablet 0 asks note 0.
+-- A version is what it makes of a step and a state. Four are met on the tape that 01 prints: first boxes 0, 1, 2; tablet 0 asks note 0. The last
+-- is shut out by what holds of every step.
 use Prim.Native.Nat.{ℕ}
 use mathlib.Core.Bool.{Bool, true, false, true≢false}
 use mathlib.Core.List.{List, [], _∷_}
 use mathlib.Core.Logic.{inl}
-use mathlib.Core.Path.{_≡_, refl, sym, ap, _∙_}
+use mathlib.Core.Path.{_≡_, refl, sym, ap, subst, _∙_}
 use native.Mathlib.Nat.{lt-irrefl}
 use native.Mathlib.Omega.{arith}
 use lib.ListN.{getD}
@@ -26,7 +27,8 @@ use Rattle.state.specs.declared.Stepped.{Stepped}
 use Rattle.state.specs.Slots.{all, many, laid}
 use Rattle.state.specs.State.{fresh, allDifferent, properDesk, proper}
 use Rattle.parlour.specs.Steps.{hereAt, applied, takenIf, taken, StepPromise}
-use Rattle.parlour.specs.Statements.{tabletAt}
+use Rattle.parlour.specs.Statements.{tabletAt, RoundMoves}
+use Rattle.parlour.proofs.Statements.{statements}
 use Rattle.promise.specs.Promise.{after, HandsBack, accepted}
 
 -- what a version makes of a step and a state; it meets the contract where each result does
@@ -78,6 +80,12 @@ DoesNothing version = (step : Step) (r : Run) → version step r .run ≡ r
 abbrev pub OnlyFrees : Version → Type 0
 OnlyFrees version = (slot : ℕ) → version (Deliver slot) oneHeard .run .devices ≡ oneHeard .devices
 
+-- invents round numbers: after some step a tablet's round is neither the old one nor the old one plus 1, begun by that step
+abbrev pub InventsRounds : Version → Type 0
+InventsRounds version =
+    ((step : Step) (r : Run) (q : ℕ)
+    → RoundMoves step (version step r .outcome) q (tabletAt q r .round) (tabletAt q (version step r .run) .round)) → ⊥
+
 -- ---- What the rules do there
 
 record Facts : Type 0 where
@@ -113,6 +121,7 @@ pub record ShutOut (version : Version) : Type 0 where
   pub hands-back-the-first : HandsBackTheFirst version → ⊥
   pub does-nothing : DoesNothing version → ⊥
   pub only-frees : OnlyFrees version → ⊥
+  pub invents-rounds : InventsRounds version → ⊥
 
 pub shut-out : (version : Version) → Meets version → ShutOut version
 shut-out version meets =
@@ -131,6 +140,7 @@ shut-out version meets =
           λ h.
           true≢false (sym (facts .heard-by-box-one) ∙ ap (λ (s : Stepped). boxOneHasIt (s .run .devices)) (sym (meets (Deliver 1) oneHeard .settled))
           ∙ ap boxOneHasIt (h 1) ∙ facts .not-before);
+      invents-rounds = λ h. h rounds;
     }
   where
     commits : HandsBack (version (Advance 0) answered .outcome) itsBook
@@ -139,3 +149,9 @@ shut-out version meets =
     -- the first book has not the note
     not-the-first : itsBook ≡ freshContents (answered .first) .v → ⊥
     not-the-first e = true≢false (sym (facts .has-its-note) ∙ ap (λ (b : Book). hasNote 0 (b .notes)) e ∙ facts .first-has-not)
+
+    rounds : (step : Step) (r : Run) (q : ℕ)
+        → RoundMoves step (version step r .outcome) q (tabletAt q r .round) (tabletAt q (version step r .run) .round)
+    rounds step r q =
+        subst (λ (s : Stepped). RoundMoves step (s .outcome) q (tabletAt q r .round) (tabletAt q (s .run) .round)) (sym (meets step r .settled))
+        (statements .rounds-move step r q)

@@ -7,10 +7,12 @@ pub mod Taking
 pub mod Acts
 pub mod Naming
 pub mod Frame
--- A step keeps a proper state proper, leaves all others as before, and takes nothing from any device.
+-- A step keeps a proper state proper, leaves all others as before, takes nothing from any device, leaves T outstanding, and moves a round by 1.
 pub mod ProperEffect
 pub mod ProperStays
 pub mod Others
 pub mod Growth
+pub mod Outstanding
+pub mod Rounds
 -- What specs/Statements says, all of it.
 pub mod Statements

@@ -1,7 +1,9 @@
 -- A step keeps a proper state proper, its lists as long as they were, and the listed changes at their places, whatever the step is
 -- (`proper-stays`, `sized-stays`, `listed-stays`, `listed-longer`). Refusal 1 is given to no proper state (`proper-not-1`).
+-- So every state of a run from a proper one is proper (`ran-proper`).
 use Prim.Native.Nat.{ℕ, _^_, _<_, _≤_}
 use mathlib.Core.Bool.{Bool, true}
+use mathlib.Core.List.{List, [], _∷_}
 use mathlib.Core.Path.{_≡_, refl}
 use native.Mathlib.Nat.{le-refl}
 use native.Mathlib.Omega.{arith}
@@ -28,6 +30,7 @@ use Rattle.state.specs.State.{allDifferent, properTablet, isTablet, isBox, prop
 use Rattle.state.proofs.StateLaws.{Sized, Proper, proper-parts, parts-proper, letter-fits}
 use Rattle.state.proofs.ListingLaws.{fits-more}
 use Rattle.parlour.specs.Steps.{within, slotOf, hereAt, applied, takenIf, taken}
+use Rattle.parlour.specs.Statements.{ran}
 use Rattle.parlour.proofs.Acts.{Acts, refused, asks, hears-request, hears-answer, hears-commit, goes-on, commits, adopts, changes-none, deviceFor, hereFor, effectFor, acts-for}
 use Rattle.parlour.proofs.Naming.{naming-more, naming-few, naming-different, naming-fits, Lists, as-before, by-ask, lists-same, lists-more, lists-long}
 use Rattle.parlour.proofs.Frame.{sized-applied}
@@ -159,3 +162,10 @@ module _ (step : Step) (r : Run) where
   pub proper-not-1 : proper r ≡ true → numberOf (taken step r .outcome) ≡ 1 → ⊥
   unfolding taken takenIf applied
   proper-not-1 p = acts-not-1 p (acts-for step r)
+
+-- ---- The run
+
+pub ran-proper : (r : Run) (steps : List Step) → length (r .listed .changes) ≡ 6 → proper r ≡ true → proper (ran r steps) ≡ true
+unfolding ran
+ran-proper r [] l p = p
+ran-proper r (step ∷ later) l p = ran-proper (taken step r .run) later (long-stays step r l) (proper-stays step r l p)

@@ -1,5 +1,6 @@
 -- What holds of every step beside what it does (01, "The steps", "How far a contract must reach"; 001, Section 5): a contract settles its result,
--- a refusal leaves the state, a step leaves all others as before, a run stays proper, contents only grow, new messages take the lowest free slots.
+-- a refusal leaves the state, a step leaves all others as before, a run stays proper, contents only grow, T is outstanding,
+-- rounds go up by 1, new messages take the lowest free slots.
 -- It is proved in proofs/Statements, of every state and every step; where a run is meant, it says so.
 use Prim.Native.Nat.{ℕ, _+_, _<_, _≤_}
 use mathlib.Core.Bool.{true, false, not}
@@ -7,6 +8,7 @@ use mathlib.Core.List.{List, [], _∷_}
 use mathlib.Core.Logic.{_⊎_}
 use mathlib.Core.Path.{_≡_}
 use lib.ListN.{getD, take, length}
+use Rattle.sets.specs.Settles.{Settles}
 use Rattle.sets.specs.Sets.{has}
 use Rattle.books.specs.declared.Listed.{Listed}
 use Rattle.books.specs.Books.{notesInside, configInside, bookInside}
@@ -15,15 +17,19 @@ use Rattle.devices.specs.declared.Contents.{Contents}
 use Rattle.devices.specs.declared.Tablet.{Tablet}
 use Rattle.devices.specs.declared.Message.{Message}
 use Rattle.devices.specs.declared.Message.the-variants.{Empty}
-use Rattle.devices.specs.declared.Outcome.the-variants.{Refused}
+use Rattle.devices.specs.declared.Outcome.{Outcome}
+use Rattle.devices.specs.declared.Outcome.the-variants.{Done, Round, Refused}
 use Rattle.devices.specs.declared.Step.{Step}
+use Rattle.devices.specs.declared.Step.the-variants.{Advance}
 use Rattle.devices.specs.Contents.{freshContents, freshTablet, merged}
 use Rattle.devices.specs.Effects.{numberOf, isEmpty}
-use Rattle.rules.specs.Table.{row, slotNamed, deviceNamed}
+use Rattle.rules.specs.Table.{row, slotNamed, deviceNamed, isAskOf}
 use Rattle.state.specs.declared.Slot.{Slot}
 use Rattle.state.specs.declared.Run.{Run}
+use Rattle.state.specs.declared.Stepped.{Stepped}
 use Rattle.state.specs.Slots.{emptySlot, isFree, all, many, laid}
-use Rattle.state.specs.State.{fresh, StartPromise, proper}
+use Rattle.state.specs.State.{fresh, proper}
+use Rattle.parlour.specs.declared.Unplug.{Unplug}
 use Rattle.parlour.specs.Steps.{slotOf, messageAt, taken, StepPromise, UnplugPromise}
 
 -- what a device keeps, and a tablet's own part
@@ -35,17 +41,17 @@ tabletAt t r = getD (r .tablets) t freshTablet
 
 -- ---- "Show that two results meeting it are equal"
 
--- a contract settles the result: no two meet it
-abbrev pub Settles : {A : Type 0} → (A → Type 0) → Type 0
-Settles {A} contract = (x y : A) → contract x → contract y → x ≡ y
-
+-- each public call, with its contract
 pub record Settled : Type 0 where
-  -- starting a run
-  pub start : (first : ℕ) → Settles (StartPromise first)
-  -- a step; the calls ask, advance, deliver, lose, repeat and stop have this contract for the step that they are named after
-  pub step : (step : Step) (r : Run) → Settles (StepPromise step r)
-  -- the unplug question
-  pub may-unplug : (r : Run) (box : ℕ) → Settles (UnplugPromise r box)
+  pub step : (run : Run) (step : Step) → Settles (λ (r : Stepped). StepPromise step run r)
+  pub ask : (run : Run) (tablet notes added removed : ℕ)
+      → Settles (λ (r : Stepped). StepPromise (Step.Ask tablet notes (record { added = added; removed = removed })) run r)
+  pub advance : (run : Run) (tablet : ℕ) → Settles (λ (r : Stepped). StepPromise (Step.Advance tablet) run r)
+  pub deliver : (run : Run) (slot : ℕ) → Settles (λ (r : Stepped). StepPromise (Step.Deliver slot) run r)
+  pub lose : (run : Run) (slot : ℕ) → Settles (λ (r : Stepped). StepPromise (Step.Lose slot) run r)
+  pub repeat : (run : Run) (slot : ℕ) → Settles (λ (r : Stepped). StepPromise (Step.Repeat slot) run r)
+  pub stop : (run : Run) (device : ℕ) → Settles (λ (r : Stepped). StepPromise (Step.Stop device) run r)
+  pub may-unplug : (run : Run) (number : ℕ) → Settles (λ (r : Unplug). UnplugPromise run number r)
 
 -- ---- "A refusal carries no book, row or length; state and buffers stay as given."
 
@@ -115,6 +121,33 @@ pub record ContentsGrow : Type 0 where
   -- so no step takes anything from any device
   pub in-a-step : (step : Step) (r : Run) (d : ℕ) → Grown (taken step r .run .listed) (deviceAt d r) (deviceAt d (taken step r .run))
 
+-- ---- "a set T of listed changes not contained in v's configuration"
+
+-- each change of a device's T is listed, and v's configuration does not contain it
+abbrev pub Outstanding : Listed → Contents → Type 0
+Outstanding listed c =
+    (k : ℕ) → has k (c .t) ≡ true → (k < listed .count) × (configInside (changeAt listed k) (c .v .config) ≡ false)
+
+-- so it is of every device, in every state of a run from a fresh start
+abbrev pub AllOutstanding : Type 0
+AllOutstanding = (first : ℕ) (steps : List Step) (d : ℕ) → d < 24
+    → Outstanding (ran (fresh first) steps .listed) (deviceAt d (ran (fresh first) steps))
+
+-- ---- "Begin a round. Round plus 1"
+
+-- the step began round n of tablet q: an ask of it that is done, or its Advance, which answers with the round
+abbrev pub Began : Step → Outcome → ℕ → ℕ → Type 0
+Began step answer q n = ((isAskOf q step ≡ true) × (answer ≡ Done)) ⊎ ((step ≡ Advance q) × (answer ≡ Round n))
+
+-- a round is the old one, or the old one plus 1 where the step began it
+abbrev pub RoundMoves : Step → Outcome → ℕ → ℕ → ℕ → Type 0
+RoundMoves step answer q old new = (new ≡ old) ⊎ ((new ≡ old + 1) × Began step answer q new)
+
+-- so it is of every step and every tablet's round
+abbrev pub RoundsMove : Type 0
+RoundsMove = (step : Step) (r : Run) (q : ℕ)
+    → RoundMoves step (taken step r .outcome) q (tabletAt q r .round) (tabletAt q (taken step r .run) .round)
+
 -- ---- "New messages take the lowest free slots, in order."
 
 pub record LowestFree (ms : List Message) (slots : List Slot) : Type 0 where
@@ -135,4 +168,6 @@ pub record Statements : Type 0 where
   pub others-stay : (step : Step) (r : Run) → OthersStay step r (taken step r .run)
   pub proper-stays : ProperStays
   pub contents-grow : ContentsGrow
+  pub all-outstanding : AllOutstanding
+  pub rounds-move : RoundsMove
   pub lowest-free : (ms : List Message) (slots : List Slot) → LowestFree ms slots

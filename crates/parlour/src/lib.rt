@@ -150,6 +150,7 @@ fn take(mut run: Run, known: bool, step: Step) -> Stepped
         }
         i += 1;
     }
+    let stopped = (run.stopped >> d) % 2 == 1;
     let e = rules::effect_of(
         ok,
         step,
@@ -159,14 +160,15 @@ fn take(mut run: Run, known: bool, step: Step) -> Stepped
             tablet: tablet,
             listed: listed,
             free: free,
-            stopped: (run.stopped >> d) % 2 == 1,
+            stopped: stopped,
         },
     );
+    let slot_after = freed(slot, e.frees);
     let contents_after = e.contents;
     let tablet_after = e.tablet;
     let listed_after = e.listed;
     let outcome = e.outcome;
-    run.slots[at] = freed(slot, e.frees);
+    run.slots[at] = slot_after;
     run.devices[d] = contents_after;
     run.tablets[t] = tablet_after;
     run.listed = listed_after;
@@ -183,7 +185,8 @@ fn take(mut run: Run, known: bool, step: Step) -> Stepped
             let m = s.message;
             if devices::is_empty(m) {
                 let copy = devices::address(sent, q as u8);
-                run.slots[p] = Slot { message: copy };
+                let filled = Slot { message: copy };
+                run.slots[p] = filled;
                 q += 1;
             }
             p += 1;

@@ -22,7 +22,7 @@ use Rattle.devices.specs.declared.Step.{Step}
 use Rattle.devices.specs.declared.Step.the-variants.{Deliver}
 use Rattle.devices.specs.Contents.{freshContents, freshTablet, broughtBy, merged}
 use Rattle.devices.specs.Effects.{addressed, addressee, only, noSending, refuse}
-use Rattle.rules.specs.Table.{row, deviceNamed, namesTablet}
+use Rattle.rules.specs.Table.{row, deviceNamed, namesTablet, isAskOf}
 use Rattle.rules.specs.Rules.{heard}
 use Rattle.state.specs.declared.Run.{Run}
 use Rattle.state.specs.Slots.{emptySlot}
@@ -31,7 +31,7 @@ use Rattle.parlour.specs.Steps.{within, slotOf, deviceOf, messageAt, hereAt, ap
 use Rattle.agreement.specs.Setting.{Book as AbstractBook}
 use Rattle.agreement.specs.State.{idle, State, told}
 use Rattle.agreement.specs.Steps.{start}
-use Rattle.promise.specs.Promise.{Event, isAskOf, askedBy, after, history}
+use Rattle.promise.specs.Promise.{Event, askedBy, after, history}
 use Rattle.promise.proofs.Reading.{parlour, asBook, changesBelow}
 use Rattle.parlour.proofs.Acts.{Acts, refused, asks, hears-request, hears-answer, hears-commit, goes-on, commits, adopts, changes-none, Resends, sends-nothing, sends-again, acts}
 use Rattle.state.proofs.StateLaws.{sized-fresh, proper-parts, parts-proper, fresh-proper, request-to, answer-to}

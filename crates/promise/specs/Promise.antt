@@ -20,7 +20,7 @@ use Rattle.devices.specs.declared.Step.{Step}
 use Rattle.devices.specs.declared.Step.the-variants.{Ask, Advance}
 use Rattle.devices.specs.declared.Outcome.{Outcome}
 use Rattle.devices.specs.Effects.{answerOf, numberOf}
-use Rattle.rules.specs.Table.{row, namesTablet}
+use Rattle.rules.specs.Table.{row, isAskOf}
 use Rattle.state.specs.declared.Run.{Run}
 use Rattle.state.specs.State.{fresh}
 use Rattle.parlour.specs.Steps.{taken}
@@ -78,10 +78,6 @@ pub record AcceptedAsk (h : List Event) : Type 0 where
   pub happened : Happened event earlier h
   pub step : event .step ≡ Ask tablet own pair
   pub answer : accepted (event .answer) ≡ true
-
--- the step is an ask of the tablet
-abbrev pub isAskOf : ℕ → Step → Bool
-isAskOf t step = both (row step .asks) (namesTablet t (row step .names))
 
 -- what a step brings: an ask its tablet's own notes and its pair, any other step nothing
 abbrev pub brought : Step → Book

@@ -3,6 +3,7 @@
 use Prim.Native.Nat.{ℕ}
 use mathlib.Core.Bool.{Bool, true, false}
 use lib.Dec.{leb, eqb}
+use Rattle.sets.specs.Choice.{both}
 use Rattle.books.specs.declared.Config.{Config}
 use Rattle.books.specs.declared.Book.{Book}
 use Rattle.books.specs.Books.{ownNotes, noBook}
@@ -78,6 +79,10 @@ deviceNamed (Device n) m = n
 
 -- the tablet is named
 abbrev pub namesTablet : ℕ → Named → Bool
-namesTablet tablet (Tablet n) = eqb n tablet
-namesTablet tablet (Slot n) = false
-namesTablet tablet (Device n) = false
+namesTablet t (Tablet n) = eqb n t
+namesTablet t (Slot n) = false
+namesTablet t (Device n) = false
+
+-- the step is an ask of the tablet
+abbrev pub isAskOf : ℕ → Step → Bool
+isAskOf t step = both (row step .asks) (namesTablet t (row step .names))

@@ -1,4 +1,4 @@
--- The set of no number (`none-in-empty`), a set whose numbers are moved up (`in-moved`), and the set of one number (`in-single`, `single-has`).
+-- The set of no number (`none-in-empty`), a set of a width (`below-width`), a set whose numbers are moved up (`in-moved`), and the set of one number (`in-single`, `single-has`).
 use Prim.Native.Nat.{ℕ, _+_, _*_, _/_, _%_, _^_, _<_, _≤_}
 use mathlib.Core.Bool.{Bool, true, false}
 use mathlib.Core.Path.{_≡_, refl, sym, ap, _∙_}
@@ -25,13 +25,17 @@ above-move k a n h = go (ltb n k) refl
     go true e = absurd (lt-irrefl 0 (omega (arith, h, nothing-below k a n (ltb-true n k e))))
     go false e = ltb-false n k e
 
+-- in a set below 2^k each number is below k
+pub below-width : (k a n : ℕ) → a < 2 ^ k → digit n a ≡ 1 → n < k
+below-width k a n l h = go (ltb n k) refl
+  where
+    go : (t : Bool) → ltb n k ≡ t → n < k
+    go true e = ltb-true n k e
+    go false e = absurd (lt-irrefl 0 (omega (arith, h, digit-high k n a l (ltb-false n k e))))
+
 -- of a set below 2^j moved up by k, each number is one of the j from k on
 pub in-moved : (j k a n : ℕ) → a < 2 ^ j → digit n (a * 2 ^ k) ≡ 1 → (k ≤ n) × (n < j + k)
-in-moved j k a n l h = (above-move k a n h, go (ltb n (j + k)) refl)
-  where
-    go : (t : Bool) → ltb n (j + k) ≡ t → n < j + k
-    go true e = ltb-true n (j + k) e
-    go false e = absurd (lt-irrefl 0 (omega (arith, h, digit-high (j + k) n (a * 2 ^ k) (shl-lt j k l) (ltb-false n (j + k) e))))
+in-moved j k a n l h = (above-move k a n h, below-width (j + k) (a * 2 ^ k) n (shl-lt j k l) h)
 
 -- in the set of one number there is that number and no other
 pub in-single : (k n : ℕ) → digit n (2 ^ k) ≡ 1 → n ≡ k

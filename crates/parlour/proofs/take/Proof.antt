@@ -1,4 +1,6 @@
-use Prim.Native.Nat.{_+_, _-_, _≤_}
+-- One step. Every need reads the code's places by name: "The way back" has one short way from each place to the one before it, so a statement put
+-- in between changes one of these ways, the invariants' lists of locals and the last list, and nothing else.
+use Prim.Native.Nat.{_+_, _-_, _<_, _≤_}
 use mathlib.Core.Bool.{Bool}
 use mathlib.Core.Logic.{⊎-elim}
 use mathlib.Core.Path.{_≡_, sym, ap, _∙_}
@@ -17,6 +19,8 @@ use Rattle.parlour.proofs.Taking.{Pass, pass-start, pass-skip, pass-fil
 use Rattle.parlour.proofs.take.Statement.{statement}
 use Rattle.parlour.proofs.take.Tie as tie
 
+-- ---- The invariants and measures of the three loops: the scan, the count, the laying
+
 abbrev Inv-loop : tie.InvT-loop
 Inv-loop known step run listed n ok₀ all z₀ ok z = (z ≤ all) × (length (run .slots) ≡ 128) × Scanned known run z ok
 
@@ -32,282 +36,350 @@ abbrev μ-loop2 : tie.MeasureT-loop2
     end - i
 
 abbrev Inv-loop3 : tie.InvT-loop3
-Inv-loop3 known run₀ n ok all z at d t end free i outcome sent to p₀ q₀ run p q =
+Inv-loop3 known run₀ n ok all z at d t end free i stopped outcome sent to p₀ q₀ run p q =
     Pass run₀ sent to p q run
 
 abbrev μ-loop3 : tie.MeasureT-loop3
-μ-loop3 known run₀ n ok all z at d t end free i outcome sent to p₀ q₀ run p q = (128 - p) + (24 - q)
+μ-loop3 known run₀ n ok all z at d t end free i stopped outcome sent to p₀ q₀ run p q = (128 - p) + (24 - q)
 
-desk-proper-requires :
-    tie.Need-desk-proper-requires Inv-loop μ-loop Inv-loop2 μ-loop2 Inv-loop3 μ-loop3
-desk-proper-requires c κs =
-    tt
+-- a place of the code, or a need, with these invariants
+abbrev At : (tie.InvT-loop → tie.MeasureT-loop → tie.InvT-loop2 → tie.MeasureT-loop2 → tie.InvT-loop3 → tie.MeasureT-loop3 → Type 0) → Type 0
+At P = P Inv-loop μ-loop Inv-loop2 μ-loop2 Inv-loop3 μ-loop3
 
-scanned-requires : tie.Need-scanned-requires Inv-loop μ-loop Inv-loop2 μ-loop2 Inv-loop3 μ-loop3
-scanned-requires c κs =
-    tt
+-- ---- The way back: from each place to the named place before it
 
-loop-holds : tie.Need-loop-holds Inv-loop μ-loop Inv-loop2 μ-loop2 Inv-loop3 μ-loop3
+abbrev start : At tie.After-scanned → At tie.Start
+start c = c .before .before .before .before .before
+
+abbrev bound : At tie.At-loop → At tie.After-scanned
+bound c = c .before
+
+abbrev scan : At tie.After-loop → At tie.At-loop
+scan c = c .before
+
+abbrev scanned : At tie.After-slot-of → At tie.After-loop
+scanned c = c .before
+
+abbrev place : At tie.After-device-of → At tie.After-slot-of
+place c = c .before .before
+
+abbrev device : At tie.After-tablet-of → At tie.After-device-of
+device c = c .before
+
+abbrev tablet-here : At tie.After-contents → At tie.After-tablet-of
+tablet-here c = c .before
+
+abbrev tablet : At tie.After-counted → At tie.After-tablet-of
+tablet c = tablet-here (c .before .before)
+
+abbrev limit : At tie.At-loop2 → At tie.After-counted
+limit c = c .before
+
+abbrev count : At tie.After-loop2 → At tie.At-loop2
+count c = c .before
+
+abbrev counted : At tie.After-effect-of → At tie.After-loop2
+counted c = c .before
+
+abbrev effect : At tie.After-freed → At tie.After-effect-of
+effect c = c .before
+
+abbrev stored : At tie.After-listed-after → At tie.After-freed
+stored c = c .before .before .before
+
+abbrev freed : At tie.After-stopped-after → At tie.After-freed
+freed c = stored (c .before)
+
+abbrev stopped : At tie.After-kept-after → At tie.After-stopped-after
+stopped c = c .before .before
+
+abbrev kept : At tie.After-sending → At tie.After-kept-after
+kept c = c .before
+
+abbrev sending : At tie.At-loop3 → At tie.After-sending
+sending c = c .before
+
+abbrev lay : At tie.After-loop3 → At tie.At-loop3
+lay c = c .before
+
+-- in the loops, from the end of a turn
+abbrev scan-place : At tie.After-proper-message → At tie.At-loop
+scan-place c = c .before .before .before
+
+abbrev count-place : At tie.After-is-empty → At tie.At-loop2
+count-place c = c .before .before .before
+
+abbrev lay-place : At tie.After-is-empty2 → At tie.In-loop3
+lay-place c = c .before .before .before
+
+-- and from further on
+abbrev slot-before : At tie.After-counted → At tie.After-slot-of
+slot-before c = place (device (tablet c))
+
+abbrev start-before : At tie.After-slot-of → At tie.Start
+start-before c = start (bound (scan (scanned c)))
+
+abbrev read-before : At tie.After-freed → At tie.After-counted
+read-before c = limit (count (counted (effect c)))
+
+-- ---- What is known there
+
+-- the passes look at 128 slots at most
+scan-limit : (c : At tie.At-loop) → (bound c) .scanned .result ≤ 128
+scan-limit c = scan-bound ((start (bound c)) .args .known) ((bound c) .scanned .ensures)
+
+count-limit : (c : At tie.At-loop2) → (limit c) .counted .result ≤ 128
+count-limit c = count-bound ((start-before (slot-before (limit c))) .args .step) ((limit c) .counted .ensures)
+
+lay-limit : (c : At tie.In-loop3) → (c .before .loop3 .p < 128) × (c .before .loop3 .q < 24)
+lay-limit c = left-to-lay (c .before .loop3 .p) (c .before .loop3 .q) (c .loop3-test .taken)
+
+-- the table has 128 slots
+slots-long : (c : At tie.After-slot-of) → length ((start-before c) .args .t1 .slots) ≡ 128
+slots-long c = (scan (scanned c)) .loop .inv .1
+
+-- the places are below their bounds
+device-low : (c : At tie.After-counted) → (device (tablet c)) .device-of .result < 24
+device-low c = (device (tablet c)) .device-of .ensures .1
+
+slot-low : (c : At tie.After-counted) → (slot-before c) .slot-of .result < 128
+slot-low c = (slot-before c) .slot-of .ensures .1
+
+tablet-low : (c : At tie.After-counted) → (tablet c) .tablet-of .result < 8
+tablet-low c = (tablet c) .tablet-of .ensures .1
+
+-- ---- The needs: the scan
+
+desk-proper-requires : At tie.Need-desk-proper-requires
+desk-proper-requires c κs = tt
+
+scanned-requires : At tie.Need-scanned-requires
+scanned-requires c κs = tt
+
+loop-holds : At tie.Need-loop-holds
 loop-holds c =
-    (omega arith, search (needs, length-mapped), scan-holds (c .before .before .before .before .before .args .known) (c .before .before .before .before .before .args .t1) (c .before .desk-proper .ensures))
+    (omega arith, search (needs, length-mapped), scan-holds ((start c) .args .known) ((start c) .args .t1) (c .before .desk-proper .ensures))
 
-mul-s : tie.Need-mul-s Inv-loop μ-loop Inv-loop2 μ-loop2 Inv-loop3 μ-loop3
-mul-s c =
-    omega (arith, scan-bound (c .before .before .before .before .before .before .before .args .known) (c .before .before .scanned .ensures))
+mul-s : At tie.Need-mul-s
+mul-s c = omega (arith, scan-limit (c .before))
 
-element-copy-out-s :
-    tie.Need-element-copy-out-s Inv-loop μ-loop Inv-loop2 μ-loop2 Inv-loop3 μ-loop3
-element-copy-out-s c =
-    omega (arith, scan-bound (c .before .before .before .before .before .before .before .args .known) (c .before .before .scanned .ensures))
+element-copy-out-s : At tie.Need-element-copy-out-s
+element-copy-out-s c = omega (arith, scan-limit (c .before))
 
-proper-message-requires :
-    tie.Need-proper-message-requires Inv-loop μ-loop Inv-loop2 μ-loop2 Inv-loop3 μ-loop3
-proper-message-requires c κs =
-    tt
+proper-message-requires : At tie.Need-proper-message-requires
+proper-message-requires c κs = tt
 
-add-z : tie.Need-add-z Inv-loop μ-loop Inv-loop2 μ-loop2 Inv-loop3 μ-loop3
-add-z c =
-    omega (arith, scan-bound (c .before .before .before .before .before .before .before .before .before .args .known) (c .before .before .before .before .scanned .ensures))
+add-z : At tie.Need-add-z
+add-z c = omega (arith, scan-limit (scan-place c))
 
-loop-less : tie.Need-loop-less Inv-loop μ-loop Inv-loop2 μ-loop2 Inv-loop3 μ-loop3
-loop-less c =
-    omega (arith, scan-bound (c .before .before .before .before .before .before .before .before .before .args .known) (c .before .before .before .before .scanned .ensures))
+loop-less : At tie.Need-loop-less
+loop-less c = omega (arith, scan-limit (scan-place c))
 
-loop-again : tie.Need-loop-again Inv-loop μ-loop Inv-loop2 μ-loop2 Inv-loop3 μ-loop3
-loop-again c = (
-  omega arith,
-  (c .before .before .before .loop .inv .1),
-  scan-turn (c .before .before .before .before .before .before .before .before .before .args .known) (c .before .before .before .before .before .before .before .before .before .args .t1) (c .before .before .before .loop .z) (c .before .before .before .loop .ok) (c .before .before .before .loop .inv .1) (c .before .before .before .before .scanned .ensures) (c .before .before .loop-test .taken) (ap (both (c .before .before .before .loop .ok)) (c .proper-message .ensures)) (c .before .before .before .loop .inv .2),
-)
+loop-again : At tie.Need-loop-again
+loop-again c =
+    let l = scan-place c in
+    let s = start (bound l) in (
+      omega arith,
+      l .loop .inv .1,
+      scan-turn (s .args .known) (s .args .t1) (l .loop .z) (l .loop .ok) (l .loop .inv .1) ((bound l) .scanned .ensures) (c .before .before .loop-test .taken)
+          (ap (both (l .loop .ok)) (c .proper-message .ensures)) (l .loop .inv .2),
+    )
 
-slot-of-requires : tie.Need-slot-of-requires Inv-loop μ-loop Inv-loop2 μ-loop2 Inv-loop3 μ-loop3
-slot-of-requires c κs =
-    tt
+-- ---- The slot, the device, the tablet
 
-mul-slot : tie.Need-mul-slot Inv-loop μ-loop Inv-loop2 μ-loop2 Inv-loop3 μ-loop3
-mul-slot c =
-    omega (arith, (c .slot-of .ensures .1))
+slot-of-requires : At tie.Need-slot-of-requires
+slot-of-requires c κs = tt
 
-element-copy-out-slot :
-    tie.Need-element-copy-out-slot Inv-loop μ-loop Inv-loop2 μ-loop2 Inv-loop3 μ-loop3
-element-copy-out-slot c =
-    omega (arith, (c .slot-of .ensures .1))
+mul-slot : At tie.Need-mul-slot
+mul-slot c = omega (arith, c .slot-of .ensures .1)
 
-device-of-requires :
-    tie.Need-device-of-requires Inv-loop μ-loop Inv-loop2 μ-loop2 Inv-loop3 μ-loop3
-device-of-requires c κs =
-    tt
+element-copy-out-slot : At tie.Need-element-copy-out-slot
+element-copy-out-slot c = omega (arith, c .slot-of .ensures .1)
 
-tablet-of-requires :
-    tie.Need-tablet-of-requires Inv-loop μ-loop Inv-loop2 μ-loop2 Inv-loop3 μ-loop3
-tablet-of-requires c κs =
-    tt
+device-of-requires : At tie.Need-device-of-requires
+device-of-requires c κs = tt
 
-mul-contents : tie.Need-mul-contents Inv-loop μ-loop Inv-loop2 μ-loop2 Inv-loop3 μ-loop3
-mul-contents c =
-    omega (arith, (c .before .device-of .ensures .1))
+tablet-of-requires : At tie.Need-tablet-of-requires
+tablet-of-requires c κs = tt
 
-element-copy-out-contents :
-    tie.Need-element-copy-out-contents Inv-loop μ-loop Inv-loop2 μ-loop2 Inv-loop3 μ-loop3
-element-copy-out-contents c =
-    omega (arith, (c .before .device-of .ensures .1))
+mul-contents : At tie.Need-mul-contents
+mul-contents c = omega (arith, (device c) .device-of .ensures .1)
 
-mul-tablet : tie.Need-mul-tablet Inv-loop μ-loop Inv-loop2 μ-loop2 Inv-loop3 μ-loop3
-mul-tablet c =
-    omega (arith, (c .before .tablet-of .ensures .1))
+element-copy-out-contents : At tie.Need-element-copy-out-contents
+element-copy-out-contents c = omega (arith, (device c) .device-of .ensures .1)
 
-element-copy-out-tablet :
-    tie.Need-element-copy-out-tablet Inv-loop μ-loop Inv-loop2 μ-loop2 Inv-loop3 μ-loop3
-element-copy-out-tablet c =
-    omega (arith, (c .before .tablet-of .ensures .1))
+mul-tablet : At tie.Need-mul-tablet
+mul-tablet c = omega (arith, (tablet-here c) .tablet-of .ensures .1)
 
-counted-requires : tie.Need-counted-requires Inv-loop μ-loop Inv-loop2 μ-loop2 Inv-loop3 μ-loop3
-counted-requires c κs =
-    tt
+element-copy-out-tablet : At tie.Need-element-copy-out-tablet
+element-copy-out-tablet c = omega (arith, (tablet-here c) .tablet-of .ensures .1)
 
-loop2-holds : tie.Need-loop2-holds Inv-loop μ-loop Inv-loop2 μ-loop2 Inv-loop3 μ-loop3
-loop2-holds c =
-    (omega arith, omega arith, zero-add _)
+counted-requires : At tie.Need-counted-requires
+counted-requires c κs = tt
 
-mul-s-2 : tie.Need-mul-s-2 Inv-loop μ-loop Inv-loop2 μ-loop2 Inv-loop3 μ-loop3
-mul-s-2 c =
-    omega (arith, count-bound (c .before .before .before .before .before .before .before .before .before .before .before .before .before .before .before .before .args .step) (c .before .before .counted .ensures))
+-- ---- The count
 
-element-copy-out-s-2 :
-    tie.Need-element-copy-out-s-2 Inv-loop μ-loop Inv-loop2 μ-loop2 Inv-loop3 μ-loop3
-element-copy-out-s-2 c =
-    omega (arith, count-bound (c .before .before .before .before .before .before .before .before .before .before .before .before .before .before .before .before .args .step) (c .before .before .counted .ensures))
+loop2-holds : At tie.Need-loop2-holds
+loop2-holds c = (omega arith, omega arith, zero-add _)
 
-is-empty-requires : tie.Need-is-empty-requires Inv-loop μ-loop Inv-loop2 μ-loop2 Inv-loop3 μ-loop3
-is-empty-requires c κs =
-    tt
+mul-s-2 : At tie.Need-mul-s-2
+mul-s-2 c = omega (arith, count-limit (c .before))
 
-add-free : tie.Need-add-free Inv-loop μ-loop Inv-loop2 μ-loop2 Inv-loop3 μ-loop3
-add-free c =
-    omega (arith, count-bound (c .before .before .before .before .before .before .before .before .before .before .before .before .before .before .before .before .before .before .before .args .step) (c .before .before .before .before .before .counted .ensures))
+element-copy-out-s-2 : At tie.Need-element-copy-out-s-2
+element-copy-out-s-2 c = omega (arith, count-limit (c .before))
 
-add-i : tie.Need-add-i Inv-loop μ-loop Inv-loop2 μ-loop2 Inv-loop3 μ-loop3
-add-i c =
-    omega (arith, count-bound (c .before .before .before .before .before .before .before .before .before .before .before .before .before .before .before .before .before .before .before .args .step) (c .before .before .before .before .before .counted .ensures))
+is-empty-requires : At tie.Need-is-empty-requires
+is-empty-requires c κs = tt
 
-loop2-less : tie.Need-loop2-less Inv-loop μ-loop Inv-loop2 μ-loop2 Inv-loop3 μ-loop3
-loop2-less c =
-    omega (arith, count-bound (c .before .before .before .before .before .before .before .before .before .before .before .before .before .before .before .before .before .before .before .args .step) (c .before .before .before .before .before .counted .ensures))
+add-free : At tie.Need-add-free
+add-free c = omega (arith, count-limit (count-place (c .before)))
 
-loop2-again : tie.Need-loop2-again Inv-loop μ-loop Inv-loop2 μ-loop2 Inv-loop3 μ-loop3
+add-i : At tie.Need-add-i
+add-i c = omega (arith, count-limit (count-place (c .before)))
+
+loop2-less : At tie.Need-loop2-less
+loop2-less c = omega (arith, count-limit (count-place (c .before)))
+
+loop2-again : At tie.Need-loop2-again
 loop2-again c =
-    let xs = (c .before .before .before .before .before .before .before .before .before .before .before .before .before .before .before .before .before .before .before .args .t1 .slots) in
-    let n = (c .before .before .before .before .before .before .before .before .before .before .before .before .before .loop .inv .1) in
-    let l = count-bound (c .before .before .before .before .before .before .before .before .before .before .before .before .before .before .before .before .before .before .before .args .step) (c .before .before .before .before .before .counted .ensures) in
-    let e = (c .before .is-empty .ensures) in
+    let l = count-place (c .before) in
+    let xs = (start-before (slot-before (limit l))) .args .t1 .slots in
+    let n = slots-long (slot-before (limit l)) in
+    let b = count-limit l in
+    let e = c .before .is-empty .ensures in
+    let m = l .loop2 .inv .2 in
     ⊎-elim
-    (λ w. (omega arith, omega (arith, w .1), omega (arith, w .1, (c .before .before .before .before .loop2 .inv .2), many-in isFree emptySlot xs (c .before .before .before .before .loop2 .i) (omega (arith, n)) (sym e ∙ w .0 .taken))))
-    (λ w. (omega arith, omega (arith, w .1), omega (arith, w .1, (c .before .before .before .before .loop2 .inv .2), many-out isFree emptySlot xs (c .before .before .before .before .loop2 .i) (omega (arith, n)) (sym e ∙ w .0 .left))))
+    (λ w. (omega arith, omega (arith, w .1), omega (arith, w .1, m, many-in isFree emptySlot xs (l .loop2 .i) (omega (arith, n)) (sym e ∙ w .0 .taken))))
+    (λ w. (omega arith, omega (arith, w .1), omega (arith, w .1, m, many-out isFree emptySlot xs (l .loop2 .i) (omega (arith, n)) (sym e ∙ w .0 .left))))
     (c .if1 .came)
 
-cast-t61 : tie.Need-cast-t61 Inv-loop μ-loop Inv-loop2 μ-loop2 Inv-loop3 μ-loop3
-cast-t61 c =
-    omega (arith, (c .before .before .before .before .before .before .device-of .ensures .1))
+-- ---- The rule and the stores
 
-shr-t62 : tie.Need-shr-t62 Inv-loop μ-loop Inv-loop2 μ-loop2 Inv-loop3 μ-loop3
-shr-t62 c =
-    omega (arith, (c .before .before .before .before .before .before .device-of .ensures .1))
+cast-stopped : At tie.Need-cast-stopped
+cast-stopped c = omega (arith, device-low (limit (count c)))
 
-effect-of-requires :
-    tie.Need-effect-of-requires Inv-loop μ-loop Inv-loop2 μ-loop2 Inv-loop3 μ-loop3
-effect-of-requires c κs =
-    tt
+shr-stopped : At tie.Need-shr-stopped
+shr-stopped c = omega (arith, device-low (limit (count c)))
 
-freed-requires : tie.Need-freed-requires Inv-loop μ-loop Inv-loop2 μ-loop2 Inv-loop3 μ-loop3
-freed-requires c κs =
-    tt
+effect-of-requires : At tie.Need-effect-of-requires
+effect-of-requires c κs = tt
 
-mul-t44 : tie.Need-mul-t44 Inv-loop μ-loop Inv-loop2 μ-loop2 Inv-loop3 μ-loop3
-mul-t44 c =
-    omega (arith, (c .before .before .before .before .before .before .before .before .before .before .before .before .before .slot-of .ensures .1))
+freed-requires : At tie.Need-freed-requires
+freed-requires c κs = tt
 
-element-set-from-run :
-    tie.Need-element-set-from-run Inv-loop μ-loop Inv-loop2 μ-loop2 Inv-loop3 μ-loop3
-element-set-from-run c =
-    omega (arith, (c .before .before .before .before .before .before .before .before .before .before .before .before .before .slot-of .ensures .1))
+mul-slot-after : At tie.Need-mul-slot-after
+mul-slot-after c = omega (arith, slot-low (read-before (stored c)))
 
-mul-contents-after :
-    tie.Need-mul-contents-after Inv-loop μ-loop Inv-loop2 μ-loop2 Inv-loop3 μ-loop3
-mul-contents-after c =
-    omega (arith, (c .before .before .before .before .before .before .before .before .before .before .before .device-of .ensures .1))
+element-set-from-slot-after : At tie.Need-element-set-from-slot-after
+element-set-from-slot-after c = omega (arith, slot-low (read-before (stored c)))
 
-element-set-from-contents-after :
-    tie.Need-element-set-from-contents-after Inv-loop μ-loop Inv-loop2 μ-loop2 Inv-loop3 μ-loop3
-element-set-from-contents-after c =
-    omega (arith, (c .before .before .before .before .before .before .before .before .before .before .before .device-of .ensures .1))
+mul-contents-after : At tie.Need-mul-contents-after
+mul-contents-after c = omega (arith, device-low (read-before (stored c)))
 
-mul-tablet-after : tie.Need-mul-tablet-after Inv-loop μ-loop Inv-loop2 μ-loop2 Inv-loop3 μ-loop3
-mul-tablet-after c =
-    omega (arith, (c .before .before .before .before .before .before .before .before .before .before .tablet-of .ensures .1))
+element-set-from-contents-after : At tie.Need-element-set-from-contents-after
+element-set-from-contents-after c = omega (arith, device-low (read-before (stored c)))
 
-element-set-from-tablet-after :
-    tie.Need-element-set-from-tablet-after Inv-loop μ-loop Inv-loop2 μ-loop2 Inv-loop3 μ-loop3
-element-set-from-tablet-after c =
-    omega (arith, (c .before .before .before .before .before .before .before .before .before .before .tablet-of .ensures .1))
+mul-tablet-after : At tie.Need-mul-tablet-after
+mul-tablet-after c = omega (arith, tablet-low (read-before (stored c)))
 
-stopped-after-requires :
-    tie.Need-stopped-after-requires Inv-loop μ-loop Inv-loop2 μ-loop2 Inv-loop3 μ-loop3
-stopped-after-requires c κs =
-    omega (arith, (c .before .before .before .before .before .before .before .before .before .before .before .device-of .ensures .1))
+element-set-from-tablet-after : At tie.Need-element-set-from-tablet-after
+element-set-from-tablet-after c = omega (arith, tablet-low (read-before (stored c)))
 
-kept-after-requires :
-    tie.Need-kept-after-requires Inv-loop μ-loop Inv-loop2 μ-loop2 Inv-loop3 μ-loop3
-kept-after-requires c κs =
-    tt
+stopped-after-requires : At tie.Need-stopped-after-requires
+stopped-after-requires c κs = omega (arith, device-low (read-before (stored c)))
 
-loop3-holds : tie.Need-loop3-holds Inv-loop μ-loop Inv-loop2 μ-loop2 Inv-loop3 μ-loop3
+kept-after-requires : At tie.Need-kept-after-requires
+kept-after-requires c κs = tt
+
+-- ---- The laying
+
+loop3-holds : At tie.Need-loop3-holds
 loop3-holds c =
-    pass-start _ _ _ (length-set (c .before .before .before .before .before .before .before .before .before .before .before .before .before .before .before .before .before .before .before .before .before .before .before .before .before .args .t1 .slots) (c .before .before .before .before .before .before .before .before .before .before .before .before .before .before .before .before .before .slot-of .result) (c .before .before .before .before .freed .result) ∙ (c .before .before .before .before .before .before .before .before .before .before .before .before .before .before .before .before .before .before .before .loop .inv .1))
+    let f = freed (stopped (kept c)) in
+    let a = slot-before (read-before f) in
+    pass-start _ _ _ (length-set ((start-before a) .args .t1 .slots) (a .slot-of .result) (f .freed .result) ∙ slots-long a)
 
-cast-if2 : tie.Need-cast-if2 Inv-loop μ-loop Inv-loop2 μ-loop2 Inv-loop3 μ-loop3
-cast-if2 c =
-    omega (arith, left-to-lay (c .before .loop3 .p) (c .before .loop3 .q) (c .loop3-test .taken))
+cast-if2 : At tie.Need-cast-if2
+cast-if2 c = omega (arith, lay-limit c)
 
-shr-if2 : tie.Need-shr-if2 Inv-loop μ-loop Inv-loop2 μ-loop2 Inv-loop3 μ-loop3
-shr-if2 c =
-    omega (arith, left-to-lay (c .before .loop3 .p) (c .before .loop3 .q) (c .loop3-test .taken))
+shr-if2 : At tie.Need-shr-if2
+shr-if2 c = omega (arith, lay-limit c)
 
-mul-s-3 : tie.Need-mul-s-3 Inv-loop μ-loop Inv-loop2 μ-loop2 Inv-loop3 μ-loop3
-mul-s-3 c =
-    omega (arith, left-to-lay (c .before .before .loop3 .p) (c .before .before .loop3 .q) (c .before .loop3-test .taken))
+mul-s-3 : At tie.Need-mul-s-3
+mul-s-3 c = omega (arith, lay-limit (c .before))
 
-element-copy-out-s-3 :
-    tie.Need-element-copy-out-s-3 Inv-loop μ-loop Inv-loop2 μ-loop2 Inv-loop3 μ-loop3
-element-copy-out-s-3 c =
-    omega (arith, left-to-lay (c .before .before .loop3 .p) (c .before .before .loop3 .q) (c .before .loop3-test .taken))
+element-copy-out-s-3 : At tie.Need-element-copy-out-s-3
+element-copy-out-s-3 c = omega (arith, lay-limit (c .before))
 
-is-empty-requires-2 :
-    tie.Need-is-empty-requires-2 Inv-loop μ-loop Inv-loop2 μ-loop2 Inv-loop3 μ-loop3
-is-empty-requires-2 c κs =
-    tt
+is-empty-requires-2 : At tie.Need-is-empty-requires-2
+is-empty-requires-2 c κs = tt
 
-cast-address : tie.Need-cast-address Inv-loop μ-loop Inv-loop2 μ-loop2 Inv-loop3 μ-loop3
-cast-address c =
-    omega (arith, left-to-lay (c .before .before .before .before .before .loop3 .p) (c .before .before .before .before .before .loop3 .q) (c .before .before .before .before .loop3-test .taken))
+cast-address : At tie.Need-cast-address
+cast-address c = omega (arith, lay-limit (lay-place (c .before)))
 
-address-requires : tie.Need-address-requires Inv-loop μ-loop Inv-loop2 μ-loop2 Inv-loop3 μ-loop3
-address-requires c κs =
-    tt
+address-requires : At tie.Need-address-requires
+address-requires c κs = tt
 
-mul-t87 : tie.Need-mul-t87 Inv-loop μ-loop Inv-loop2 μ-loop2 Inv-loop3 μ-loop3
-mul-t87 c =
-    omega (arith, left-to-lay (c .before .before .before .before .before .before .loop3 .p) (c .before .before .before .before .before .before .loop3 .q) (c .before .before .before .before .before .loop3-test .taken))
+mul-filled : At tie.Need-mul-filled
+mul-filled c = omega (arith, lay-limit (lay-place (c .before .before)))
 
-element-set-from-run-2 :
-    tie.Need-element-set-from-run-2 Inv-loop μ-loop Inv-loop2 μ-loop2 Inv-loop3 μ-loop3
-element-set-from-run-2 c =
-    omega (arith, left-to-lay (c .before .before .before .before .before .before .loop3 .p) (c .before .before .before .before .before .before .loop3 .q) (c .before .before .before .before .before .loop3-test .taken))
+element-set-from-filled : At tie.Need-element-set-from-filled
+element-set-from-filled c = omega (arith, lay-limit (lay-place (c .before .before)))
 
-add-q : tie.Need-add-q Inv-loop μ-loop Inv-loop2 μ-loop2 Inv-loop3 μ-loop3
-add-q c =
-    omega (arith, left-to-lay (c .before .before .before .before .before .before .loop3 .p) (c .before .before .before .before .before .before .loop3 .q) (c .before .before .before .before .before .loop3-test .taken))
+add-q : At tie.Need-add-q
+add-q c = omega (arith, lay-limit (lay-place (c .before .before)))
 
-add-p : tie.Need-add-p Inv-loop μ-loop Inv-loop2 μ-loop2 Inv-loop3 μ-loop3
-add-p c =
-    omega (arith, left-to-lay (c .before .before .before .before .before .loop3 .p) (c .before .before .before .before .before .loop3 .q) (c .before .before .before .before .loop3-test .taken))
+add-p : At tie.Need-add-p
+add-p c = omega (arith, lay-limit (lay-place (c .before)))
 
-loop3-less : tie.Need-loop3-less Inv-loop μ-loop Inv-loop2 μ-loop2 Inv-loop3 μ-loop3
+loop3-less : At tie.Need-loop3-less
 loop3-less c =
-    let l = left-to-lay (c .before .before .before .before .before .loop3 .p) (c .before .before .before .before .before .loop3 .q) (c .before .before .before .before .loop3-test .taken) in
+    let l = lay-limit (lay-place (c .before)) in
     ⊎-elim (λ w. omega (arith, w .3)) (λ w. omega (arith, w .2)) (c .if3 .came)
 
-loop3-again : tie.Need-loop3-again Inv-loop μ-loop Inv-loop2 μ-loop2 Inv-loop3 μ-loop3
+loop3-again : At tie.Need-loop3-again
 loop3-again c =
-    let l = left-to-lay (c .before .before .before .before .before .loop3 .p) (c .before .before .before .before .before .loop3 .q) (c .before .before .before .before .loop3-test .taken) in
+    let t = lay-place (c .before) in
+    let s = t .before .loop3 in
+    let l = lay-limit t in
     let b = eq-eqb _ _ (c .before .before .before .if2 .taken) in
-    let e = (c .before .is-empty2 .ensures) in
+    let e = c .before .is-empty2 .ensures in
     ⊎-elim
-    (λ w. pass-free _ _ _ (c .before .before .before .before .before .loop3 .p) (c .before .before .before .before .before .loop3 .q) (c .before .before .before .before .before .loop3 .run) l (c .before .before .before .before .before .loop3 .inv) b (sym e ∙ w .0 .taken) (w .1 .ensures) (w .2) (w .3))
-    (λ w. pass-filled _ _ _ (c .before .before .before .before .before .loop3 .p) (c .before .before .before .before .before .loop3 .q) (c .before .before .before .before .before .loop3 .run) l (c .before .before .before .before .before .loop3 .inv) b (sym e ∙ w .0 .left) (w .1) (w .2))
+    (λ w. pass-free _ _ _ (s .p) (s .q) (s .run) l (s .inv) b (sym e ∙ w .0 .taken) (w .1 .ensures) (w .2) (w .3))
+    (λ w. pass-filled _ _ _ (s .p) (s .q) (s .run) l (s .inv) b (sym e ∙ w .0 .left) (w .1) (w .2))
     (c .if3 .came)
 
-add-q-2 : tie.Need-add-q-2 Inv-loop μ-loop Inv-loop2 μ-loop2 Inv-loop3 μ-loop3
-add-q-2 c =
-    omega (arith, left-to-lay (c .before .before .loop3 .p) (c .before .before .loop3 .q) (c .before .loop3-test .taken))
+add-q-2 : At tie.Need-add-q-2
+add-q-2 c = omega (arith, lay-limit (c .before))
 
-loop3-less-2 : tie.Need-loop3-less-2 Inv-loop μ-loop Inv-loop2 μ-loop2 Inv-loop3 μ-loop3
-loop3-less-2 c =
-    omega (arith, left-to-lay (c .before .before .loop3 .p) (c .before .before .loop3 .q) (c .before .loop3-test .taken))
+loop3-less-2 : At tie.Need-loop3-less-2
+loop3-less-2 c = omega (arith, lay-limit (c .before))
 
-loop3-again-2 : tie.Need-loop3-again-2 Inv-loop μ-loop Inv-loop2 μ-loop2 Inv-loop3 μ-loop3
+loop3-again-2 : At tie.Need-loop3-again-2
 loop3-again-2 c =
-    let l = left-to-lay (c .before .before .loop3 .p) (c .before .before .loop3 .q) (c .before .loop3-test .taken) in
-    pass-skip _ _ _ (c .before .before .loop3 .p) (c .before .before .loop3 .q) (c .before .before .loop3 .run) l (c .before .before .loop3 .inv) (ne-eqb _ _ (c .if2 .left))
+    let s = c .before .before .loop3 in
+    pass-skip _ _ _ (s .p) (s .q) (s .run) (lay-limit (c .before)) (s .inv) (ne-eqb _ _ (c .if2 .left))
 
-returns : tie.Need-returns Inv-loop μ-loop Inv-loop2 μ-loop2 Inv-loop3 μ-loop3
+-- ---- The result
+
+returns : At tie.Need-returns
 returns c =
-    let r = (c .before .before .before .before .before .before .before .before .before .before .before .before .before .before .before .before .before .before .before .before .before .before .before .before .before .before .before .args .t1) in
-    let n = (c .before .before .before .before .before .before .before .before .before .before .before .before .before .before .before .before .before .before .before .before .before .loop .inv .1) in
-    let ok = scan-done (c .before .before .before .before .before .before .before .before .before .before .before .before .before .before .before .before .before .before .before .before .before .before .before .before .before .before .before .args .known) r (c .before .before .before .before .before .before .before .before .before .before .before .before .before .before .before .before .before .before .before .before .before .loop .z) (c .before .before .before .before .before .before .before .before .before .before .before .before .before .before .before .before .before .before .before .before .before .loop .ok) n (c .before .before .before .before .before .before .before .before .before .before .before .before .before .before .before .before .before .before .before .before .before .before .scanned .ensures) (c .before .before .before .before .before .before .before .before .before .before .before .before .before .before .before .before .before .before .before .before .loop-test .left) (c .before .before .before .before .before .before .before .before .before .before .before .before .before .before .before .before .before .before .before .before .before .loop .inv .2) in
-    let done = pass-done _ _ _ (c .before .loop3 .p) (c .before .loop3 .q) (c .before .loop3 .run) (c .loop3-test .left) (c .before .loop3 .inv) in
-    let free = counted-free (c .before .before .before .before .before .before .before .before .before .before .before .before .before .before .before .before .before .before .before .before .before .before .before .before .before .before .before .args .step) r (c .before .before .before .before .before .before .before .before .before .before .before .before .loop2 .free) (c .before .before .before .before .before .before .before .before .before .before .before .before .loop2 .i) n (c .before .before .before .before .before .before .before .before .before .before .before .before .before .counted .ensures) (c .before .before .before .before .before .before .before .before .before .before .before .loop2-test .left) (c .before .before .before .before .before .before .before .before .before .before .before .before .loop2 .inv .2) in
-    let whole = take-is (c .before .before .before .before .before .before .before .before .before .before .before .before .before .before .before .before .before .before .before .before .before .loop .ok) (c .before .before .before .before .before .before .before .before .before .before .before .before .before .before .before .before .before .before .before .before .before .before .before .before .before .before .before .args .step) r (c .before .before .before .before .before .before .before .before .before .before .before .before .loop2 .free) (c .before .before .before .before .before .before .before .before .before .before .before .before .before .before .before .before .before .before .before .slot-of .ensures .0) (c .before .before .before .before .before .before .before .before .before .before .before .before .before .before .before .before .before .device-of .ensures .0) (c .before .before .before .before .before .before .before .before .before .before .before .before .before .before .before .before .tablet-of .ensures .0) free (c .before .before .before .before .before .before .before .before .before .before .effect-of .ensures) (c .before .before .before .before .before .before .freed .ensures) (c .before .before .before .before .before .stopped-after .ensures) (c .before .before .before .kept-after .ensures) done in
-    whole ∙ ap (λ (b : Bool). takenIf b (c .before .before .before .before .before .before .before .before .before .before .before .before .before .before .before .before .before .before .before .before .before .before .before .before .before .before .before .args .step) r) ok
+    let s = (lay c) .loop3 in
+    let k = kept (sending (lay c)) in
+    let f = freed (stopped k) in
+    let u = read-before f in
+    let n = (count (counted (effect f))) .loop2 in
+    let a = slot-before u in
+    let z = (scan (scanned a)) .loop in
+    let o = (start-before a) .args in
+    let long = slots-long a in
+    let ok = scan-done (o .known) (o .t1) (z .z) (z .ok) long ((bound (scan (scanned a))) .scanned .ensures) ((scanned a) .loop-test .left) (z .inv .2) in
+    let free = counted-free (o .step) (o .t1) (n .free) (n .i) long (u .counted .ensures) ((counted (effect f)) .loop2-test .left) (n .inv .2) in
+    let done = pass-done _ _ _ (s .p) (s .q) (s .run) (c .loop3-test .left) (s .inv) in
+    take-is (z .ok) (o .step) (o .t1) (n .free) (a .slot-of .ensures .0) ((device (tablet u)) .device-of .ensures .0)
+    ((tablet u) .tablet-of .ensures .0) free ((effect f) .effect-of .ensures) (f .freed .ensures) ((stopped k) .stopped-after .ensures)
+    (k .kept-after .ensures) done
+    ∙ ap (λ (b : Bool). takenIf b (o .step) (o .t1)) ok
 
 pub take-spec : {M : Type 1} → statement M
 take-spec =
@@ -346,12 +418,12 @@ take-spec =
     add-i
     loop2-less
     loop2-again
-    cast-t61
-    shr-t62
+    cast-stopped
+    shr-stopped
     effect-of-requires
     freed-requires
-    mul-t44
-    element-set-from-run
+    mul-slot-after
+    element-set-from-slot-after
     mul-contents-after
     element-set-from-contents-after
     mul-tablet-after
@@ -366,8 +438,8 @@ take-spec =
     is-empty-requires-2
     cast-address
     address-requires
-    mul-t87
-    element-set-from-run-2
+    mul-filled
+    element-set-from-filled
     add-q
     add-p
     loop3-less
