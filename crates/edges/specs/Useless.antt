@@ -144,7 +144,9 @@ shut-out version meets =
     }
   where
     commits : HandsBack (version (Advance 0) answered .outcome) itsBook
-    commits = inl (ap (λ (s : Stepped). answerOf (s .outcome) .committed) (meets (Advance 0) answered .settled) ∙ ap (λ (o : Outcome). answerOf o .committed) (facts .commits))
+    commits =
+        inl (ap (λ (s : Stepped). answerOf (s .outcome) .committed) (meets (Advance 0) answered .settled)
+        ∙ ap (λ (o : Outcome). answerOf o .committed) (facts .commits))
 
     -- the first book has not the note
     not-the-first : itsBook ≡ freshContents (answered .first) .v → ⊥
