@@ -108,7 +108,7 @@ module _ {A : Type 0} (gives : Config → A) (nothing : A) (listed : Listed) (co
 
   pub queried-out : (join : A → A → A) → ((a : A) → join a nothing ≡ a) → (subset : ℕ) (all : A) → inside subset t ≡ false
       → all ≡ join all (queried gives nothing listed config t subset)
-  queried-out join none subset all h = sym (none all) ∙ ap (join all) (sym (adds-nothing subset h))
+  queried-out join unchanged subset all h = sym (unchanged all) ∙ ap (join all) (sym (adds-nothing subset h))
 
   -- no number past the end is a subset of t
   pub queried-past : (end : ℕ) → (64 ≤ end) ⊎ (t < end) → (n : ℕ) → end ≤ n → n < 64 → queried gives nothing listed config t n ≡ nothing

@@ -60,13 +60,13 @@ one-more : {A : Type 0} (grow : ℕ → A → A) (all : ℕ → A) → ((k : ℕ
 one-more grow all more k p q = q ∙ ap (grow k) p ∙ sym (more k) ∙ ap all (sym (add-one k))
 
 -- numbers that add nothing need no look
-no-more : {A : Type 0} (join : A → A → A) (none : A) → ((a : A) → join a none ≡ a) → (all f : ℕ → A)
-    → ((k : ℕ) → all (suc k) ≡ join (all k) (f k)) → (j k : ℕ) → j ≤ k → ((n : ℕ) → j ≤ n → n < k → f n ≡ none) → all j ≡ all k
-no-more join none nothing all f more j zero l h = ap all (eq-zero l)
-no-more join none nothing all f more j (suc k) l h =
+no-more : {A : Type 0} (join : A → A → A) (nothing : A) → ((a : A) → join a nothing ≡ a) → (all f : ℕ → A)
+    → ((k : ℕ) → all (suc k) ≡ join (all k) (f k)) → (j k : ℕ) → j ≤ k → ((n : ℕ) → j ≤ n → n < k → f n ≡ nothing) → all j ≡ all k
+no-more join nothing unchanged all f more j zero l h = ap all (eq-zero l)
+no-more join nothing unchanged all f more j (suc k) l h =
     ⊎-elim (λ e. ap all e)
     (λ m.
-    no-more join none nothing all f more j k (le-of-suc-le-suc m) (λ n a b. h n a (omega arith)) ∙ sym (nothing (all k))
+    no-more join nothing unchanged all f more j k (le-of-suc-le-suc m) (λ n a b. h n a (omega arith)) ∙ sym (unchanged (all k))
     ∙ ap (join (all k)) (sym (h k (le-of-suc-le-suc m) (omega arith))) ∙ sym (more k))
     (eq-or-lt-of-le l)
 
