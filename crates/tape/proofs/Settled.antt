@@ -8,6 +8,7 @@ use native.Mathlib.Omega.{arith}
 use lib.ListN.{length}
 use borrow.Author.Tests.{le-leb}
 use Rattle.tape.specs.Bits.{fieldAt}
+use Rattle.tape.specs.Edition.{firstEdition}
 use Rattle.tape.specs.Layout.{fieldsIn}
 use Rattle.tape.specs.Reading.{Result, given, refused, readTape, firstBoxes}
 use Rattle.tape.specs.Writing.{isStep}
@@ -50,10 +51,10 @@ write-settled first words buf r s v w a b =
 pub field-settled : (x from width r s : ℕ) → r ≡ fieldAt x from width → s ≡ fieldAt x from width → r ≡ s
 field-settled x from width r s a b = a ∙ sym b
 
-pub fields-settled : (x : ℕ) (r s : Fields) → r ≡ fieldsIn 1 x → s ≡ fieldsIn 1 x → r ≡ s
+pub fields-settled : (x : ℕ) (r s : Fields) → r ≡ fieldsIn firstEdition x → s ≡ fieldsIn firstEdition x → r ≡ s
 fields-settled x r s a b = a ∙ sym b
 
-pub is-step-settled : (x : ℕ) (r s : Bool) → r ≡ isStep 1 x → s ≡ isStep 1 x → r ≡ s
+pub is-step-settled : (x : ℕ) (r s : Bool) → r ≡ isStep firstEdition x → s ≡ isStep firstEdition x → r ≡ s
 is-step-settled x r s a b = a ∙ sym b
 
 number-of : (n : ℕ) (vs : List ℕ → List ℕ) (o : Result) → ((xs : List ℕ) → o ≡ given xs → length xs ≤ n) → answerWith n vs o .number ≡ number o

@@ -1,4 +1,5 @@
 pub mod Bits
+pub mod Edition
 pub mod Layout
 pub mod Reading
 pub mod Writing
