@@ -10,14 +10,14 @@ use lib.ListN.{length, take, drop, length-append, length-drop, replicate, length
 use lib.Seq.{length-take-le, take-at, take-all, drop-at, drop-append-le, drop-drop}
 use lib.Dec.{eqb, ltb}
 use borrow.Author.Tests.{eqb-false, lt-ltb, ltb-false}
-use Rattle.tape.specs.Bits.{num, bits, bitsOf}
+use Rattle.tape.specs.Bits.{num, bits, bitsOf, Bytes}
 use Rattle.tape.specs.Edition.{Edition, firstEdition}
 use Rattle.tape.specs.Reading.{readAt, given, refused, more, onward, readFrom, start, readSteps, boxesIn, firstBoxes, readIn, readTape}
 use Rattle.tape.specs.Writing.{wide, stepBits, allSteps, body, pad, ending, stepsPart, size, tapeWith, tapeOf, writeTape}
 use Rattle.tape.specs.declared.reading.Reading.{Reading}
 use Rattle.tape.specs.declared.reading.Reading.the-variants.{Step, Refused, End}
 use Rattle.tape.proofs.BitLaws.{length-bits, num-inj, num-bits-small, num-zeros, bits-part, cut-append}
-use Rattle.tape.proofs.ByteLaws.{Bytes, length-bitsOf, drop-bitsOf, bitsOf-pack, bitsOf-inj, bytes-pack}
+use Rattle.tape.proofs.ByteLaws.{length-bitsOf, drop-bitsOf, bitsOf-pack, bitsOf-inj, bytes-pack}
 use Rattle.tape.proofs.LayoutLaws.{width-least}
 use Rattle.tape.proofs.ReadingLaws.{begins-yes, read-mark, end-good, more-is}
 use Rattle.tape.proofs.StepLaws.{StepIn, EndIn, step-in, end-in, read-step, word-of, step-word, wide-word, length-step}

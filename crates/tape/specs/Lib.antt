@@ -5,3 +5,4 @@ pub mod Reading
 pub mod Writing
 pub mod Promises
 pub mod Printed
+pub mod Statements

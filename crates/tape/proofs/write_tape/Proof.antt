@@ -8,14 +8,13 @@ use mathlib.Core.List.{List, [], _∷_, _++_}
 use mathlib.Core.Bool.{true}
 use denote.Ref.{now}
 use lib.ListN.{length, drop}
-use Rattle.tape.specs.Bits.{bits, bitsOf, overlaid}
+use Rattle.tape.specs.Bits.{bits, bitsOf, Bytes, overlaid}
 use Rattle.tape.specs.Edition.{firstEdition}
 use Rattle.tape.specs.Reading.{given, refused}
 use Rattle.tape.specs.Writing.{allSteps, body, stepsPart, bytesFor, size, tapeWith, tapeOf, writeTape}
 use Rattle.tape.specs.Promises.{answer, WritePromise}
 use Rattle.tape.specs.declared.Written.the-variants.{Bytes as Wrote, Refused}
 use Rattle.tape.proofs.BitLaws.{length-bits}
-use Rattle.tape.proofs.ByteLaws.{Bytes}
 use Rattle.tape.proofs.LayLaws.{unlaid}
 use Rattle.tape.proofs.PromiseLaws.{number-refused, number-short, refusal-kept, success-kept}
 use Rattle.tape.proofs.WritingLaws.{length-tape, tape-bits, measured-is, measured-none, write-12, write-14, write-11, write-good, size-capped, size-over}
