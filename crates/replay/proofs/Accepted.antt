@@ -1,4 +1,4 @@
--- The words of an accepted tape are all steps (`accepted-step`), so that playing one takes its step (`accepted-played`).
+-- A word that the tape takes for a step has one, which playing it takes (`word-plays`); the words of an accepted tape are such (`accepted-plays`).
 use mathlib.Core.Path.{_≡_, refl, sym}
 use mathlib.Core.Logic.{_≢_}
 use Prim.Native.Nat.{ℕ, zero, suc, _<_}
@@ -18,17 +18,17 @@ use Rattle.tape.proofs.WritingLaws.{all-cons}
 use Rattle.tape.proofs.RoundTrip.{accepted-part}
 use Rattle.devices.specs.declared.Step.{Step}
 use Rattle.devices.specs.declared.Step.the-variants.{Ask, Advance, Deliver, Lose, Repeat, Stop}
-use Rattle.state.specs.declared.Run.{Run}
 use Rattle.parlour.specs.Steps.{taken}
-use Rattle.replay.specs.Replay.{kinds, stepOf, played}
+use Rattle.replay.specs.Replay.{kinds, stepOf}
+use Rattle.replay.specs.Statements.{Plays}
 use Rattle.replay.specs.declared.Decoded.{Decoded}
 use Rattle.replay.specs.declared.Decoded.the-variants as D
 use Rattle.replay.proofs.Words.{step-is, played-step}
 
 -- what a word decodes to is a step
-pub record IsStep (d : Decoded) : Type 0 where
-  pub step : Step
-  pub is : d ≡ D.Step step
+record IsStep (d : Decoded) : Type 0 where
+  step : Step
+  is : d ≡ D.Step step
 
 -- each kind that has a width has a step
 of-wide : (f : Fields) (k : ℕ) → width firstEdition k ≢ 0 → IsStep (getD (kinds f) k D.NoStep)
@@ -40,21 +40,18 @@ of-wide f (suc (suc (suc (suc zero)))) h = record { step = Repeat (f .first); is
 of-wide f (suc (suc (suc (suc (suc zero))))) h = record { step = Stop (f .first); is = refl }
 of-wide f (suc (suc (suc (suc (suc (suc k)))))) h = absurd (h refl)
 
-word-step : (x : ℕ) → 0 < wide firstEdition x → IsStep (stepOf x)
+pub word-plays : (x : ℕ) → 0 < wide firstEdition x → Plays x
 unfolding fieldsIn fieldsOf
-word-step x h =
+word-plays x h =
     let some : width firstEdition (num (take 3 (bits 64 x))) ≢ 0 = λ e. omega (arith, wide-none firstEdition x e) in
     let d = of-wide (fieldsIn firstEdition x) (num (take 3 (bits 64 x))) some in
-    record { step = d .step; is = sym (step-is x (fieldsIn firstEdition x) (D.Step (d .step)) (lt-ltb _ _ h) refl (sym (d .is))) }
+    let is : stepOf x ≡ D.Step (d .step) = sym (step-is x (fieldsIn firstEdition x) (D.Step (d .step)) (lt-ltb _ _ h) refl (sym (d .is))) in
+    record { step = d .step; is = is; takes = λ r. sym (played-step x r (stepOf x) refl (d .step) (taken (d .step) r) is refl) }
 
 each-wide : (xs : List ℕ) → allSteps firstEdition xs ≡ true → (i : ℕ) → i < length xs → 0 < wide firstEdition (getD xs i 0)
 each-wide [] h i l = absurd (omega arith)
 each-wide (x ∷ xs) h zero l = all-cons firstEdition x xs h .0
 each-wide (x ∷ xs) h (suc i) l = each-wide xs (all-cons firstEdition x xs h .1) i (omega arith)
 
-module _ (tape xs : List ℕ) (accepted : readTape tape ≡ given xs) (i : ℕ) (below : i < length xs) where
-  pub accepted-step : IsStep (stepOf (getD xs i 0))
-  accepted-step = word-step (getD xs i 0) (each-wide xs (accepted-part firstEdition tape xs accepted .0) i below)
-
-  pub accepted-played : (r : Run) → played (getD xs i 0) r ≡ taken (accepted-step .step) r
-  accepted-played r = sym (played-step (getD xs i 0) r (stepOf (getD xs i 0)) refl (accepted-step .step) (taken (accepted-step .step) r) (accepted-step .is) refl)
+pub accepted-plays : (tape xs : List ℕ) → readTape tape ≡ given xs → (i : ℕ) → i < length xs → Plays (getD xs i 0)
+accepted-plays tape xs e i h = word-plays (getD xs i 0) (each-wide xs (accepted-part firstEdition tape xs e .0) i h)
