@@ -26,9 +26,9 @@ use Rattle.parlour.specs.Steps.{hereAt, applied, takenIf, taken}
 use Rattle.parlour.specs.Statements.{tabletAt}
 use Rattle.promise.specs.Promise.{after}
 use Rattle.tape.specs.Bits.{bit, odd, bits, num, bitsOf, word}
-use Rattle.tape.specs.Layout.{fieldsAllowed, legal, mark, numbers, fieldsOf, fieldsIn}
+use Rattle.tape.specs.Layout.{fieldsAllowed, legal, numbers, fieldsOf, fieldsIn}
 use Rattle.tape.specs.Printed.{stopsBox15}
-use Rattle.tape.specs.Reading.{begins, stepAt, endAt, kindAt, readAt, Result, given, refused, wordsOf, readFrom, readSteps, firstBoxes, headOf, readTape}
+use Rattle.tape.specs.Reading.{begins, stepAt, endAt, kindAt, readAt, Result, given, refused, wordsOf, readFrom, readSteps, boxesIn, firstBoxes, headOf, readIn, readTape}
 use Rattle.tape.specs.Writing.{wide}
 use Rattle.replay.specs.Replay.{stepOf, played}
 
@@ -125,6 +125,6 @@ Hold (row ∷ rows) = Says row × Hold rows
 pub edges-hold : Hold edges
 unfolding after taken takenIf applied hereAt effectOf ruled ask askPair askWith begun marked deliver decided allowed steady commit adoptOr
     advanceFrom advance refuse copies merged firstPlace placeOf withChange outside joinedWith everyMajority askedBoxes times each unions howMany those weigh one majority
-    majorityOf ownNotes fresh allDifferent properDesk proper all many laid bit odd bits num bitsOf word fieldsAllowed legal mark begins stepAt endAt
-    kindAt readAt readFrom readSteps firstBoxes headOf readTape playedAll played stepOf wide numbers fieldsOf fieldsIn stop
+    majorityOf ownNotes fresh allDifferent properDesk proper all many laid bit odd bits num bitsOf word fieldsAllowed legal begins stepAt endAt
+    kindAt readAt readFrom readSteps boxesIn headOf readIn playedAll played stepOf wide numbers fieldsOf fieldsIn stop
 edges-hold = (refl, (refl, (refl, (refl, (refl, (refl, (refl, (refl, (refl, (refl, (refl, (refl, (refl, (refl, (refl, (refl, tt))))))))))))))))
