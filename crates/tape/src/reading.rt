@@ -8,6 +8,7 @@ ghost use Rattle.tape.specs.Edition.{editionOf};
 ghost use Rattle.tape.specs.Reading.{endAt, readAt, start, readSteps, readIn, headOf, boxesIn, given, wordsOf};
 ghost use Rattle.tape.specs.Promises.{numberWith, numberAtEnd};
 use crate::bits::ahead;
+use crate::bits::bytes_at;
 use crate::bits::field;
 use crate::bits::top;
 use crate::edition::Edition;
@@ -105,7 +106,8 @@ pub(crate) fn first_boxes(edition: Edition, tape: &[u8]) -> u16
     ensures { λ r. ⌜ r ≡ boxesIn (editionOf edition) (now (tape .entry)) ⌝ }
 {
     let head = head_of(edition);
-    field(ahead(tape, head.boxes), 0, 16) as u16
+    let from = head.boxes;
+    field(bytes_at(tape, from / 8, 8), from % 8, 16) as u16
 }
 
 // What is wrong with a tape before its steps, or 0.
