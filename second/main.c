@@ -36,15 +36,22 @@ static int write_random_tapes(uint64_t seed, unsigned long tapes, const char *di
     return STATUS_OK;
 }
 
+static int write_out(const uint8_t *tape, size_t length)
+{
+    return fwrite(tape, 1, length, stdout) == length ? STATUS_OK : STATUS_FILE;
+}
+
 static int print_assembled(void)
 {
     size_t length = 0;
-    unsigned line = assemble(stdin, input, sizeof input, &length);
-    if (line != 0) {
-        fprintf(stderr, "line %u is no line of a tape\n", line);
-        return STATUS_FILE;
-    }
-    return fwrite(input, 1, length, stdout) == length ? STATUS_OK : STATUS_FILE;
+    unsigned long line = 0;
+    const char *wrong = assemble(stdin, input, sizeof input, &length, &line);
+    if (wrong == NULL)
+        return write_out(input, length);
+    if (line != 0)
+        fprintf(stderr, "line %lu: ", line);
+    fprintf(stderr, "%s\n", wrong);
+    return STATUS_FILE;
 }
 
 static int print_list(void)
@@ -54,18 +61,18 @@ static int print_list(void)
     size_t steps = 0;
     size_t length = read_input(stdin, input);
     Number number = read_tape(input, length, row, TAPE_STEPS, &first, &steps);
-    if (number != DONE)
-        printf("BAD %d\n", (int)number);
-    else
-        print_text_form(stdout, first, row, steps);
+    if (number != DONE) {
+        fprintf(stderr, "the tape is refused by %d\n", (int)number);
+        return STATUS_FILE;
+    }
+    print_text_form(stdout, first, row, steps);
     return STATUS_OK;
 }
 
 static int print_long_tape(uint64_t seed)
 {
     Dice dice = { seed };
-    size_t length = make_long_tape(&dice, input);
-    return fwrite(input, 1, length, stdout) == length ? STATUS_OK : STATUS_FILE;
+    return write_out(input, make_long_tape(&dice, input));
 }
 
 static uint16_t boxes_of(const char *text)
@@ -78,7 +85,7 @@ static uint64_t number_of(const char *text)
     return strtoull(text, NULL, 10);
 }
 
-int main(int arguments, char **argument)
+static int run_command(int arguments, char **argument)
 {
     const char *command = arguments > 1 ? argument[1] : "";
     if (strcmp(command, "play") == 0 && arguments <= 3)
@@ -106,4 +113,13 @@ int main(int arguments, char **argument)
         return bench(argument[2], argument[3], (unsigned long)number_of(argument[4]));
     fputs(usage, stderr);
     return STATUS_USAGE;
+}
+
+int main(int arguments, char **argument)
+{
+    int status = run_command(arguments, argument);
+    if (fflush(stdout) == 0 && !ferror(stdout))
+        return status;
+    perror("not all could be written");
+    return STATUS_FILE;
 }
