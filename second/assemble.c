@@ -3,10 +3,11 @@
 #include "text.h"
 
 #include <ctype.h>
+#include <limits.h>
 #include <stdlib.h>
 #include <string.h>
 
-enum { WORD_ROOM = 16, DECIMAL = 10, HEX = 16, MOST_TIMES = 1000000 };
+enum { WORD_ROOM = 64, DECIMAL = 10, HEX = 16 };
 
 typedef struct {
     FILE *in;
@@ -21,25 +22,18 @@ typedef struct {
     bool has_first;
     uint16_t first;
     size_t steps;
+    bool too_long; /* more steps than the row holds */
     uint64_t row[TAPE_STEPS];
 } Assembly;
 
-/* The next character; a carriage return before the end of a line is passed over. */
-static int next_character(FILE *in)
+static bool is_blank(int c)
 {
-    int c = getc(in);
-    if (c != '\r')
-        return c;
-    int after = getc(in);
-    if (after == '\n' || after == EOF)
-        return after;
-    ungetc(after, in);
-    return c;
+    return c == ' ' || c == '\t' || c == '\r';
 }
 
 static bool is_in_a_word(int c)
 {
-    return c != EOF && (c == '\0' || strchr(" \t\n#:", c) == NULL);
+    return !is_blank(c) && c != '\n' && c != '#' && c != ':' && c != EOF;
 }
 
 /* Whether the line has one more word. '?' stands for what is neither letter nor digit, and
@@ -47,10 +41,10 @@ static bool is_in_a_word(int c)
 static bool next_word(Text *text)
 {
     size_t length = 0;
-    int c = next_character(text->in);
-    while (c == ' ' || c == '\t')
-        c = next_character(text->in);
-    for (; is_in_a_word(c); c = next_character(text->in))
+    int c = getc(text->in);
+    while (is_blank(c))
+        c = getc(text->in);
+    for (; is_in_a_word(c); c = getc(text->in))
         if (length < WORD_ROOM - 1)
             text->word[length++] = (char)(isalnum(c) ? c : '?');
         else
@@ -148,9 +142,10 @@ static const char *read_steps(Text *text, Assembly *assembly, unsigned times)
     if (!assembly->has_first)
         return "the first boxes come first";
     if (times > TAPE_STEPS - assembly->steps)
-        return "more steps than a tape holds";
-    for (; times > 0; times--)
-        assembly->row[assembly->steps++] = word_of_step(step);
+        assembly->too_long = true;
+    else
+        for (; times > 0; times--)
+            assembly->row[assembly->steps++] = word_of_step(step);
     return NULL;
 }
 
@@ -184,7 +179,7 @@ static const char *read_times(Text *text, unsigned *times)
 {
     if (!isdigit((unsigned char)text->word[0]))
         return NULL;
-    const char *wrong = number_of_word(text, DECIMAL, MOST_TIMES, "over 1,000,000 times", times);
+    const char *wrong = number_of_word(text, DECIMAL, UINT_MAX, "more times than fit", times);
     if (wrong != NULL)
         return wrong;
     if (!next_word(text) || strcmp(text->word, "times") != 0)
@@ -233,12 +228,10 @@ const char *assemble(FILE *in, uint8_t *tape, size_t room, size_t *length, unsig
     *length = assembly.bytes;
     if (assembly.has_bytes)
         return NULL;
-    switch (write_tape(assembly.first, assembly.row, assembly.steps, tape, room, length)) {
-    case DONE:
-        return NULL;
-    case NO_FIRST_BOX:
+    Number number = write_tape(assembly.first, assembly.row, assembly.steps, tape, room, length);
+    if (number == NO_FIRST_BOX)
         return "no first box";
-    default:
+    if (number != DONE || assembly.too_long)
         return "the tape is over 4,096 bytes";
-    }
+    return NULL;
 }
