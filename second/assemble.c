@@ -215,13 +215,14 @@ const char *assemble(FILE *in, uint8_t *tape, size_t room, size_t *length, unsig
     static Assembly assembly;
     Text text = { .in = in };
     assembly = (Assembly){ .tape = tape, .room = room };
+    const char *wrong = NULL;
     *line = 0;
     do {
         ++*line;
-        const char *wrong = read_line(&text, &assembly);
-        if (wrong != NULL)
-            return wrong;
-    } while (next_line(&text));
+        wrong = read_line(&text, &assembly);
+    } while (wrong == NULL && next_line(&text));
+    if (wrong != NULL && !ferror(in))
+        return wrong;
     *line = 0;
     if (ferror(in))
         return "the text cannot be read";
