@@ -1,55 +1,77 @@
-/* Checks recorded tapes before they are played, and asks for a majority:
+/* What an app does with a tape before it is played: reads the file, has it checked, and says in
+   words why it is refused:
      check-tape TAPE..
-   Status 0 when every tape is good. */
+   Status: 0 every tape is good; 1 one is refused; 2 one could not be read. */
 #include "parlour.h"
 
+#include <errno.h>
 #include <stdio.h>
+#include <string.h>
+
+enum { GOOD = 0, REFUSED = 1, UNREADABLE = 2 };
 
 /* One byte more than the longest tape, so that a longer file is seen to be too long. */
 enum { ROOM = 4096 + 1 };
 
-static const char *meaning(uint8_t number)
+/* Reads a file up to its end or the end of the room; no where that fails, and errno says why. */
+static bool read_file(const char *name, uint8_t bytes[ROOM], size_t *length)
+{
+    FILE *file = fopen(name, "rb");
+    if (file == NULL)
+        return false;
+    *length = fread(bytes, 1, ROOM, file);
+    /* A folder opens and cannot be read: without this test it would be a tape of no bytes. */
+    bool whole = !ferror(file);
+    int reason = errno;
+    fclose(file);
+    errno = reason;
+    return whole;
+}
+
+static const char *reason_of(uint8_t number)
 {
     switch (number) {
-    case PARLOUR_TAPE_GOOD:
-        return "good";
     case PARLOUR_TAPE_TOO_LONG:
-        return "too long";
+        return "it has over 4,096 bytes";
     case PARLOUR_TAPE_NO_FIRST_BOX:
-        return "no first box";
+        return "it names no first box";
     case PARLOUR_TAPE_ENDS_TOO_SOON:
-        return "ends too soon";
+        return "it ends too soon: a part of it is missing";
     case PARLOUR_TAPE_NO_STEP:
-        return "holds something that is no step";
+        return "it holds something that is no step";
     case PARLOUR_TAPE_AFTER_END:
-        return "goes on after its end";
+        return "something follows its end mark";
     default:
-        return "no number of the tape check";
+        return "for a reason that this program does not know";
     }
 }
 
-static bool is_good(const char *name)
+static int check_file(const char *name)
 {
     static uint8_t tape[ROOM];
-    FILE *file = fopen(name, "rb");
-    if (file == NULL) {
-        perror(name);
-        return false;
+    size_t length = 0;
+    if (!read_file(name, tape, &length)) {
+        printf("%s: could not be read: %s\n", name, strerror(errno));
+        return UNREADABLE;
     }
-    size_t length = fread(tape, 1, ROOM, file);
-    fclose(file);
     uint8_t number = parlour_tape_check(tape, length);
-    printf("%s: %u, %s\n", name, (unsigned)number, meaning(number));
-    return number == PARLOUR_TAPE_GOOD;
+    if (number != PARLOUR_TAPE_GOOD) {
+        printf("%s: refused by %u: %s\n", name, (unsigned)number, reason_of(number));
+        return REFUSED;
+    }
+    printf("%s: good\n", name);
+    return GOOD;
 }
 
 int main(int arguments, char **argument)
 {
-    int status = 0;
-    for (int i = 1; i < arguments; i++)
-        if (!is_good(argument[i]))
-            status = 1;
+    int status = GOOD;
+    for (int i = 1; i < arguments; i++) {
+        int found = check_file(argument[i]);
+        status = found > status ? found : status;
+    }
     /* Boxes 0, 1 and 2 were added, none was removed, boxes 0 and 2 answered. */
-    printf("2 of 3 boxes: %s\n", parlour_majority(0x0007, 0x0000, 0x0005) ? "majority" : "none");
+    printf("2 of 3 boxes: %s\n",
+           parlour_majority(0x0007, 0x0000, 0x0005) ? "a majority" : "no majority");
     return status;
 }

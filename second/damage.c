@@ -1,5 +1,5 @@
 /* Damaged tapes: a sound tape with one fault of a kind that the check must see,
-   or that turns it into another tape. */
+   or that turns it into another tape. Damaged texts. */
 #include "random.h"
 
 #include <string.h>
@@ -104,5 +104,16 @@ size_t make_damaged_tape(Dice *dice, uint8_t tape[DAMAGED_ROOM])
         return flip_bits(dice, tape, length);
     default:
         return spoil_a_step(dice, tape, length);
+    }
+}
+
+/* So words are cut in two or run together, and numbers become others, too large or none. */
+void damage_text(Dice *dice, FILE *text)
+{
+    static const char characters[] = "0123456789 afx\n\r\t#:-";
+    unsigned length = (unsigned)ftell(text);
+    for (unsigned times = 1 + below(dice, 3); times > 0; times--) {
+        fseek(text, (long)below(dice, length), SEEK_SET);
+        fputc(characters[below(dice, sizeof characters - 1)], text);
     }
 }

@@ -1,9 +1,16 @@
 #include "play.h"
 #include "promise.h"
 
+#include <stdlib.h>
+
 size_t read_input(FILE *in, uint8_t tape[INPUT_ROOM])
 {
-    return fread(tape, 1, INPUT_ROOM, in);
+    size_t length = fread(tape, 1, INPUT_ROOM, in);
+    if (ferror(in)) {
+        perror("the tape cannot be read");
+        exit(STATUS_FILE);
+    }
+    return length;
 }
 
 int play(const uint8_t *tape, size_t length, unsigned round, bool show_slots)

@@ -10,6 +10,7 @@ enum { STATUS_OK = 0, STATUS_USAGE = 1, STATUS_FILE = 2, STATUS_PROMISE_BROKEN =
 /* Room for the longest tape and one byte more, which shows that it is too long. */
 enum { INPUT_ROOM = TAPE_BYTES + 1 };
 
+/* Ends the program where reading fails. */
 size_t read_input(FILE *in, uint8_t tape[INPUT_ROOM]);
 
 /* Plays as document 01 says; tablets start idle in `round` (0 for a fresh run). */

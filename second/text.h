@@ -12,11 +12,14 @@ void print_step(FILE *out, size_t number, Step step, Answer answer);
 /* The messages in the table, one line: for whoever writes a tape by hand. */
 void print_slots(FILE *out, const Run *run);
 
-/* Reads the text form of a tape (second/README.md); gives 0, or the number of the
-   line that is wrong. */
-unsigned assemble(FILE *in, uint8_t *tape, size_t room, size_t *length);
+/* The words of the text form of a tape (second/README.md), by kind of step. */
+extern const char *const step_words[STEP_KINDS];
 
-/* Prints a tape that the check accepts in its text form. */
+/* Reads the text form of a tape. Gives null and writes *length and the tape's first *length bytes,
+   or gives what is wrong and writes the number of the wrong line, 0 where no one line is. */
+const char *assemble(FILE *in, uint8_t *tape, size_t room, size_t *length, unsigned long *line);
+
+/* Prints a tape that the check accepts in its text form, with the answer of each step. */
 void print_text_form(FILE *out, uint16_t first, const uint64_t *row, size_t steps);
 
 #endif
