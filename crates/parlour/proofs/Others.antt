@@ -34,8 +34,8 @@ use Rattle.state.specs.State.{properMessage, proper}
 use Rattle.state.proofs.StateLaws.{proper-parts, answer-to}
 use Rattle.parlour.specs.Steps.{within, slotOf, hereAt, applied, takenIf, taken}
 use Rattle.parlour.specs.Statements.{deviceAt, tabletAt, Acting, Frees, Halts, OthersStay}
-use Rattle.parlour.proofs.Places.{within-in, slot-named, device-named}
 use Rattle.sets.proofs.Single.{in-single}
+use Rattle.parlour.proofs.Places.{tablet-place, slot-named, device-named}
 use Rattle.parlour.proofs.Acts.{Acts, refused, asks, hears-request, hears-answer, hears-commit, goes-on, commits, adopts, changes-none, messageFor, deviceFor, hereFor, effectFor, acts-for}
 use Rattle.parlour.proofs.Frame.{device-other, tablet-other, slot-other, refusal-leaves}
 use Rattle.parlour.proofs.ProperStays.{listed-stays, listed-longer}
@@ -48,10 +48,6 @@ record Leaves (step : Step) (m : Message) (slot d : ℕ) (h : Here) (e : Effect)
   tablet : (e .tablet ≡ h .tablet) ⊎ Acting step m (within 8 d)
   frees : (e .frees ≡ false) ⊎ Frees step slot
   stops : (e .stops ≡ false) ⊎ Halts step m d
-
--- a tablet stands at its own place
-tablet-place : {d n : ℕ} → d ≡ n → n < 8 → within 8 d ≡ n
-tablet-place {d} e l = sym (within-in 8 d (omega arith)) ∙ e
 
 acts-leave : {known : Bool} {step : Step} {m : Message} {e : Effect} (h : Here) (n slot d : ℕ) → properMessage n m ≡ true
     → slot ≡ slotNamed (row step .names) → d ≡ deviceNamed (row step .names) m → Acts known h step m e → Leaves step m slot d h e

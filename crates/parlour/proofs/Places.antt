@@ -33,6 +33,10 @@ within-lt bound n l = go (ltb n bound) refl
     go true e = ltb-true n bound e
     go false e = l
 
+-- a tablet stands at its own place
+pub tablet-place : {d n : ℕ} → d ≡ n → n < 8 → within 8 d ≡ n
+tablet-place {d} e l = sym (within-in 8 d (omega arith)) ∙ e
+
 -- ---- What the table says of a step: its slot and its device, by the kind of number that it names, and whether free slots count
 
 pub slot-as : (step : Step) {a : About} {n : Named} {i : ℕ} → a ≡ aboutStep step → a .names ≡ n → i ≡ within 128 (slotNamed n) → i ≡ slotOf step

@@ -21,15 +21,13 @@ use Rattle.state.specs.declared.Run.{Run}
 use Rattle.state.proofs.SlotLaws.{replaced-at}
 use Rattle.parlour.specs.Steps.{within, slotOf, deviceOf, hereAt, applied, takenIf, taken}
 use Rattle.parlour.specs.Statements.{tabletAt, RoundMoves, RoundsMove}
-use Rattle.parlour.proofs.Places.{within-in}
+use Rattle.parlour.proofs.Places.{within-in, tablet-place}
 use Rattle.parlour.proofs.Acts.{Acts, refused, asks, hears-request, hears-answer, hears-commit, goes-on, commits, adopts, changes-none, deviceFor, hereFor, effectFor, acts-for}
 use Rattle.parlour.proofs.Frame.{tablet-other}
 
 -- a tablet that a step names stands at its own place
 own-place : (d tablet : ℕ) → d ≡ within 24 tablet → tablet ≤ 7 → tablet ≡ within 8 d
-own-place d tablet e l =
-    let i : d ≡ tablet = e ∙ sym (within-in 24 tablet (omega arith)) in
-    sym i ∙ within-in 8 d (omega arith)
+own-place d tablet e l = sym (tablet-place (e ∙ sym (within-in 24 tablet (omega arith))) (omega arith))
 
 -- marking a box leaves the round
 marked-round : (l : Letter) (x : Tablet) → marked l x .round ≡ x .round

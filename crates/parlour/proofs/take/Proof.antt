@@ -1,154 +1,25 @@
--- One step. Every need reads the code's places by name: "The way back" has one short way from each place to the one before it, so a statement put
--- in between changes one of these ways, the invariants' lists of locals and the last list, and nothing else.
-use Prim.Native.Nat.{_+_, _-_, _<_, _≤_}
+-- One step. Every need reads the places of the code by the names that Proof/Ways gives them.
+mod Ways
 use mathlib.Core.Bool.{Bool}
 use mathlib.Core.Logic.{⊎-elim}
-use mathlib.Core.Path.{_≡_, sym, ap, _∙_}
+use mathlib.Core.Path.{sym, ap, _∙_}
 use native.Mathlib.Nat.{zero-add}
 use native.Mathlib.Omega.{arith}
-use lib.ListN.{drop, length, length-set}
+use lib.ListN.{length-set}
 use borrow.Author.Needs.{needs}
 use borrow.Author.Tests.{eq-eqb, ne-eqb}
 use Rattle.parlour.specs.Steps.{takenIf}
 use Rattle.sets.specs.Choice.{both}
 use Rattle.books.proofs.Turns.{length-mapped}
-use Rattle.state.specs.Slots.{emptySlot, isFree, many}
+use Rattle.state.specs.Slots.{emptySlot, isFree}
 use Rattle.state.proofs.SlotLaws.{many-in, many-out}
-use Rattle.parlour.proofs.Passes.{Scanned, scan-holds, scan-bound, scan-turn, scan-done, count-bound, left-to-lay}
-use Rattle.parlour.proofs.Taking.{Pass, pass-start, pass-skip, pass-filled, pass-free, pass-done, counted-free, take-is}
+use Rattle.parlour.proofs.Passes.{scan-holds, scan-turn, scan-done}
+use Rattle.parlour.proofs.Taking.{pass-start, pass-skip, pass-filled, pass-free, pass-done, counted-free, take-is}
 use Rattle.parlour.proofs.take.Statement.{statement}
 use Rattle.parlour.proofs.take.Tie as tie
+use Ways.*
 
--- ---- The invariants and measures of the three loops: the scan, the count, the laying
-
-abbrev Inv-loop : tie.InvT-loop
-Inv-loop known step run listed n ok₀ all z₀ ok z = (z ≤ all) × (length (run .slots) ≡ 128) × Scanned known run z ok
-
-abbrev μ-loop : tie.MeasureT-loop
-μ-loop known step run listed n ok₀ all z₀ ok z = all - z
-
-abbrev Inv-loop2 : tie.InvT-loop2
-Inv-loop2 known step run listed n ok all z at slot message d t contents tablet end free₀ i₀ free i =
-    (i ≤ end) × (free ≤ i) × (free + many isFree (drop i (run .slots)) ≡ many isFree (run .slots))
-
-abbrev μ-loop2 : tie.MeasureT-loop2
-μ-loop2 known step run listed n ok all z at slot message d t contents tablet end free₀ i₀ free i =
-    end - i
-
-abbrev Inv-loop3 : tie.InvT-loop3
-Inv-loop3 known run₀ n ok all z at d t end free i stopped outcome sent to p₀ q₀ run p q =
-    Pass run₀ sent to p q run
-
-abbrev μ-loop3 : tie.MeasureT-loop3
-μ-loop3 known run₀ n ok all z at d t end free i stopped outcome sent to p₀ q₀ run p q = (128 - p) + (24 - q)
-
--- a place of the code, or a need, with these invariants
-abbrev At : (tie.InvT-loop → tie.MeasureT-loop → tie.InvT-loop2 → tie.MeasureT-loop2 → tie.InvT-loop3 → tie.MeasureT-loop3 → Type 0) → Type 0
-At P = P Inv-loop μ-loop Inv-loop2 μ-loop2 Inv-loop3 μ-loop3
-
--- ---- The way back: from each place to the named place before it
-
-abbrev start : At tie.After-scanned → At tie.Start
-start c = c .before .before .before .before .before
-
-abbrev bound : At tie.At-loop → At tie.After-scanned
-bound c = c .before
-
-abbrev scan : At tie.After-loop → At tie.At-loop
-scan c = c .before
-
-abbrev scanned : At tie.After-slot-of → At tie.After-loop
-scanned c = c .before
-
-abbrev place : At tie.After-device-of → At tie.After-slot-of
-place c = c .before .before
-
-abbrev device : At tie.After-tablet-of → At tie.After-device-of
-device c = c .before
-
-abbrev tablet-here : At tie.After-contents → At tie.After-tablet-of
-tablet-here c = c .before
-
-abbrev tablet : At tie.After-counted → At tie.After-tablet-of
-tablet c = tablet-here (c .before .before)
-
-abbrev limit : At tie.At-loop2 → At tie.After-counted
-limit c = c .before
-
-abbrev count : At tie.After-loop2 → At tie.At-loop2
-count c = c .before
-
-abbrev counted : At tie.After-effect-of → At tie.After-loop2
-counted c = c .before
-
-abbrev effect : At tie.After-freed → At tie.After-effect-of
-effect c = c .before
-
-abbrev stored : At tie.After-listed-after → At tie.After-freed
-stored c = c .before .before .before
-
-abbrev freed : At tie.After-stopped-after → At tie.After-freed
-freed c = stored (c .before)
-
-abbrev stopped : At tie.After-kept-after → At tie.After-stopped-after
-stopped c = c .before .before
-
-abbrev kept : At tie.After-sending → At tie.After-kept-after
-kept c = c .before
-
-abbrev sending : At tie.At-loop3 → At tie.After-sending
-sending c = c .before
-
-abbrev lay : At tie.After-loop3 → At tie.At-loop3
-lay c = c .before
-
--- in the loops, from the end of a turn
-abbrev scan-place : At tie.After-proper-message → At tie.At-loop
-scan-place c = c .before .before .before
-
-abbrev count-place : At tie.After-is-empty → At tie.At-loop2
-count-place c = c .before .before .before
-
-abbrev lay-place : At tie.After-is-empty2 → At tie.In-loop3
-lay-place c = c .before .before .before
-
--- and from further on
-abbrev slot-before : At tie.After-counted → At tie.After-slot-of
-slot-before c = place (device (tablet c))
-
-abbrev start-before : At tie.After-slot-of → At tie.Start
-start-before c = start (bound (scan (scanned c)))
-
-abbrev read-before : At tie.After-freed → At tie.After-counted
-read-before c = limit (count (counted (effect c)))
-
--- ---- What is known there
-
--- the passes look at 128 slots at most
-scan-limit : (c : At tie.At-loop) → (bound c) .scanned .result ≤ 128
-scan-limit c = scan-bound ((start (bound c)) .args .known) ((bound c) .scanned .ensures)
-
-count-limit : (c : At tie.At-loop2) → (limit c) .counted .result ≤ 128
-count-limit c = count-bound ((start-before (slot-before (limit c))) .args .step) ((limit c) .counted .ensures)
-
-lay-limit : (c : At tie.In-loop3) → (c .before .loop3 .p < 128) × (c .before .loop3 .q < 24)
-lay-limit c = left-to-lay (c .before .loop3 .p) (c .before .loop3 .q) (c .loop3-test .taken)
-
--- the table has 128 slots
-slots-long : (c : At tie.After-slot-of) → length ((start-before c) .args .t1 .slots) ≡ 128
-slots-long c = (scan (scanned c)) .loop .inv .1
-
--- the places are below their bounds
-device-low : (c : At tie.After-counted) → (device (tablet c)) .device-of .result < 24
-device-low c = (device (tablet c)) .device-of .ensures .1
-
-slot-low : (c : At tie.After-counted) → (slot-before c) .slot-of .result < 128
-slot-low c = (slot-before c) .slot-of .ensures .1
-
-tablet-low : (c : At tie.After-counted) → (tablet c) .tablet-of .result < 8
-tablet-low c = (tablet c) .tablet-of .ensures .1
-
--- ---- The needs: the scan
+-- ---- The scan
 
 desk-proper-requires : At tie.Need-desk-proper-requires
 desk-proper-requires c κs = tt
