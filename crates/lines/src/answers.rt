@@ -1,11 +1,11 @@
 // A step's answer as the player and the lister print it: its number, and what an Advance adds to it.
-use crate::out::Out;
-use crate::out::put;
-use crate::out::put_decimal;
-use crate::out::put_hex;
 use books::Book;
 use books::Notes;
 use devices::Outcome;
+use streams::Out;
+use streams::put;
+use streams::put_decimal;
+use streams::put_hex;
 
 // 16 digits for each part of the notes, the highest part first.
 fn put_notes(buffer: &mut [u8; 4096], out: Out, notes: Notes) -> Out {
@@ -18,24 +18,25 @@ fn put_notes(buffer: &mut [u8; 4096], out: Out, notes: Notes) -> Out {
     to
 }
 
+// A space, and a set in so many hexadecimal digits.
+pub(crate) fn put_set(buffer: &mut [u8; 4096], out: Out, set: u64, width: usize) -> Out {
+    let to = put(buffer, out, b" ");
+    put_hex(buffer, to, set, width)
+}
+
 // A book handed back: its notes, then added and removed in 4 digits each.
 fn put_book(buffer: &mut [u8; 4096], out: Out, book: Book) -> Out {
     let config = book.config;
     let after_notes = put_notes(buffer, out, book.notes);
-    let before_added = put(buffer, after_notes, b" ");
-    let after_added = put_hex(buffer, before_added, config.added as u64, 4);
-    let before_removed = put(buffer, after_added, b" ");
-    put_hex(buffer, before_removed, config.removed as u64, 4)
+    let after_added = put_set(buffer, after_notes, config.added as u64, 4);
+    put_set(buffer, after_added, config.removed as u64, 4)
 }
 
 // What an Advance done adds to its number.
 fn put_values(buffer: &mut [u8; 4096], out: Out, outcome: Outcome) -> Out {
     match outcome {
         Outcome::Done => out,
-        Outcome::Round(round) => {
-            let to = put(buffer, out, b" R ");
-            put_decimal(buffer, to, round as u64)
-        }
+        Outcome::Round(round) => put_decimal(buffer, out, b" R ", round as u64),
         Outcome::Committed(book) => {
             let to = put(buffer, out, b" C ");
             put_book(buffer, to, book)
@@ -48,9 +49,14 @@ fn put_values(buffer: &mut [u8; 4096], out: Out, outcome: Outcome) -> Out {
     }
 }
 
-// The answer to the line's end.
-pub(crate) fn put_answer(buffer: &mut [u8; 4096], out: Out, outcome: Outcome) -> Out {
-    let after_number = put_decimal(buffer, out, devices::number_of(outcome) as u64);
+// A text and the answer behind it, to the line's end.
+pub(crate) fn put_answer(
+    buffer: &mut [u8; 4096],
+    out: Out,
+    before: &[u8],
+    outcome: Outcome,
+) -> Out {
+    let after_number = put_decimal(buffer, out, before, devices::number_of(outcome) as u64);
     let after_values = put_values(buffer, after_number, outcome);
     put(buffer, after_values, b"\n")
 }

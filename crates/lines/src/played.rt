@@ -1,27 +1,28 @@
 // The lines of a tape that is played (01, "The tape").
 use crate::answers::put_answer;
-use crate::out::Out;
-use crate::out::put;
-use crate::out::put_decimal;
 use devices::Outcome;
 use devices::Step;
+use streams::Out;
+use streams::put;
+use streams::put_decimal;
 
-fn put_name(buffer: &mut [u8; 4096], out: Out, step: Step) -> Out {
+// A step's name and its answer.
+fn put_named(buffer: &mut [u8; 4096], out: Out, step: Step, outcome: Outcome) -> Out {
     match step {
         Step::Ask {
             tablet: _,
             notes: _,
             pair: _,
-        } => put(buffer, out, b" ASK "),
-        Step::Advance(_) => put(buffer, out, b" ADV "),
-        Step::Deliver(_) => put(buffer, out, b" DLV "),
-        Step::Lose(_) => put(buffer, out, b" LOS "),
-        Step::Repeat(_) => put(buffer, out, b" REP "),
-        Step::Stop(_) => put(buffer, out, b" STP "),
+        } => put_answer(buffer, out, b" ASK ", outcome),
+        Step::Advance(_) => put_answer(buffer, out, b" ADV ", outcome),
+        Step::Deliver(_) => put_answer(buffer, out, b" DLV ", outcome),
+        Step::Lose(_) => put_answer(buffer, out, b" LOS ", outcome),
+        Step::Repeat(_) => put_answer(buffer, out, b" REP ", outcome),
+        Step::Stop(_) => put_answer(buffer, out, b" STP ", outcome),
     }
 }
 
-// A step's number, its name and its answer.
+// The line of a step: its number, its name and its answer.
 pub(crate) fn put_played(
     buffer: &mut [u8; 4096],
     out: Out,
@@ -29,23 +30,13 @@ pub(crate) fn put_played(
     step: Step,
     outcome: Outcome,
 ) -> Out {
-    let after_number = put_decimal(buffer, out, number as u64);
-    let after_name = put_name(buffer, after_number, step);
-    put_answer(buffer, after_name, outcome)
+    let after_number = put_decimal(buffer, out, b"", number as u64);
+    put_named(buffer, after_number, step, outcome)
 }
 
 // The last line: the number of steps, the number of books handed back.
 pub(crate) fn put_end(buffer: &mut [u8; 4096], out: Out, steps: usize, books: u64) -> Out {
-    let after_end = put(buffer, out, b"END ");
-    let after_steps = put_decimal(buffer, after_end, steps as u64);
-    let before_books = put(buffer, after_steps, b" ");
-    let after_books = put_decimal(buffer, before_books, books);
+    let after_steps = put_decimal(buffer, out, b"END ", steps as u64);
+    let after_books = put_decimal(buffer, after_steps, b" ", books);
     put(buffer, after_books, b"\n")
-}
-
-// The only line of a refused tape.
-pub(crate) fn put_bad(buffer: &mut [u8; 4096], out: Out, number: u8) -> Out {
-    let before_number = put(buffer, out, b"BAD ");
-    let after_number = put_decimal(buffer, before_number, number as u64);
-    put(buffer, after_number, b"\n")
 }

@@ -1,20 +1,20 @@
 // A tape shown: it is read, its steps are taken from the start of a run, and each prints its line.
-use crate::ended::Ended;
-use crate::ended::say_refused;
-use crate::input::read_all;
 use crate::listed::put_first;
 use crate::listed::put_listed;
-use crate::out::Out;
-use crate::out::no_text;
-use crate::out::write_out;
-use crate::played::put_bad;
 use crate::played::put_end;
 use crate::played::put_played;
+use crate::refused::put_bad;
+use crate::refused::say_refused;
 use devices::Outcome;
 use devices::Phase;
 use devices::Tablet;
 use replay::Decoded;
 use state::Run;
+use streams::Ended;
+use streams::Out;
+use streams::no_text;
+use streams::read_all;
+use streams::written;
 use tape::Read;
 
 // The forms in which a tape is shown.
@@ -108,12 +108,6 @@ fn put_steps(buffer: &mut [u8; 4096], out: Out, form: Form, start: Run, words: &
         i += 1;
     }
     put_last(buffer, to, form, i, books)
-}
-
-// Writes what is collected, and gives how a program then ends that would otherwise end so.
-pub fn written(buffer: &[u8; 4096], out: Out, so: Ended) -> Ended {
-    let last = write_out(buffer, out);
-    if last.failed { Ended::Failed } else { so }
 }
 
 fn show_steps(form: Form, first: u16, words: &[u64]) -> Ended {

@@ -4,5 +4,5 @@ use lines::Form;
 
 fn main() {
     let ended = lines::show_input(Form::Played);
-    lines::end_with(1, ended);
+    streams::end_with(1, ended);
 }

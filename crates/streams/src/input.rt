@@ -28,7 +28,7 @@ pub fn read_some(buffer: &mut [u8]) -> Input
 }
 
 // Reads until the buffer is full or the input ends.
-pub(crate) fn read_all(buffer: &mut [u8]) -> Input
+pub fn read_all(buffer: &mut [u8]) -> Input
     ensures { λ r. ⌜ Counts (r .length) (now (buffer .exit)) ⌝ }
 {
     let mut done = 0;

@@ -1,4 +1,6 @@
 // How a program ended. The language has no exit status, so a program writes it to a file that an argument names.
+use crate::out::Out;
+use crate::out::write_out;
 use libc::STDERR_FILENO;
 
 pub enum Ended {
@@ -35,20 +37,13 @@ pub fn end_with(argument: usize, ended: Ended) {
     }
 }
 
-fn say(text: &[u8]) {
-    io::write_all(STDERR_FILENO, text);
+// Writes what is collected, and gives how a program ends that would otherwise end so.
+pub fn written(buffer: &[u8; 4096], out: Out, so: Ended) -> Ended {
+    let last = write_out(buffer, out);
+    if last.failed { Ended::Failed } else { so }
 }
 
-// A tape's refusal in words, on standard error.
-pub fn say_refused(number: u8) {
-    say(b"the tape is refused by ");
-    io::print_decimal(STDERR_FILENO, number as u64);
-    match number {
-        11 => say(b": it is over 4,096 bytes\n"),
-        12 => say(b": it has no first box\n"),
-        13 => say(b": it ends too soon\n"),
-        14 => say(b": it has a step that is none\n"),
-        15 => say(b": something stands behind its end\n"),
-        _ => say(b"\n"),
-    }
+// A text on standard error.
+pub fn say(text: &[u8]) {
+    io::write_all(STDERR_FILENO, text);
 }

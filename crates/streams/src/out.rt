@@ -27,7 +27,7 @@ fn write_front(buffer: &[u8], end: usize) -> bool {
 }
 
 // Writes what is collected.
-pub fn write_out(buffer: &[u8; 4096], out: Out) -> Out {
+pub(crate) fn write_out(buffer: &[u8; 4096], out: Out) -> Out {
     if out.failed {
         return Out {
             end: 0,
@@ -68,12 +68,15 @@ pub fn put(buffer: &mut [u8; 4096], out: Out, text: &[u8]) -> Out {
     to
 }
 
-pub fn put_decimal(buffer: &mut [u8; 4096], out: Out, number: u64) -> Out {
+// A text and a number behind it.
+pub fn put_decimal(buffer: &mut [u8; 4096], out: Out, before: &[u8], number: u64) -> Out {
     let mut digits = [0u8; 20];
     let n = io::decimal(number, &mut digits);
-    put(buffer, out, &digits[..n])
+    let to = put(buffer, out, before);
+    put(buffer, to, &digits[..n])
 }
 
+// A number in so many hexadecimal digits.
 pub fn put_hex(buffer: &mut [u8; 4096], out: Out, number: u64, width: usize) -> Out {
     let mut digits = [0u8; 16];
     let n = io::hex(number, width, &mut digits);

@@ -2,8 +2,8 @@
 use mathlib.Core.Path.{sym}
 use borrow.Author.Needs.{needs}
 use lib.Seq.{length-take-le}
-use Rattle.lines.proofs.out.write_front.Statement.{statement}
-use Rattle.lines.proofs.out.write_front.Tie as tie
+use Rattle.streams.proofs.out.write_front.Statement.{statement}
+use Rattle.streams.proofs.out.write_front.Tie as tie
 
 returns : tie.Need-returns
 returns c = search needs

@@ -2,8 +2,8 @@
 use Prim.Native.Nat.{_-_}
 use native.Mathlib.Omega.{arith}
 use lib.ListN.{length}
-use Rattle.lines.proofs.out.put.Statement.{statement}
-use Rattle.lines.proofs.out.put.Tie as tie
+use Rattle.streams.proofs.out.put.Statement.{statement}
+use Rattle.streams.proofs.out.put.Tie as tie
 
 abbrev Inv-loop : tie.InvT-loop
 Inv-loop buffer₀ text to₀ i₀ buffer to i = Unit {0}

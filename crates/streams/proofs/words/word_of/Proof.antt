@@ -2,8 +2,8 @@
 use Prim.Native.Nat.{_-_}
 use native.Mathlib.Omega.{arith}
 use lib.ListN.{length}
-use Rattle.lines.proofs.words.word_of.Statement.{statement}
-use Rattle.lines.proofs.words.word_of.Tie as tie
+use Rattle.streams.proofs.words.word_of.Statement.{statement}
+use Rattle.streams.proofs.words.word_of.Tie as tie
 
 abbrev Inv-loop : tie.InvT-loop
 Inv-loop text word₀ i₀ word i = Unit {0}

@@ -42,26 +42,18 @@ fn capped(value: u64) -> u64
     if value < 65536 { value } else { 65536 }
 }
 
-fn longer_decimal(number: Number, byte: u8) -> Number {
+// A number with one digit more.
+fn with_digit(number: Number, base: u64, byte: u8) -> Number
+    requires { ⌜ base ≤ 16 ⌝ }
+{
     let Number::Is(value) = number else {
         return Number::None;
     };
     let d = digit(byte);
-    if 10 <= d {
+    if base <= d {
         return Number::None;
     }
-    Number::Is(capped(10 * capped(value) + d))
-}
-
-fn longer_hex(number: Number, byte: u8) -> Number {
-    let Number::Is(value) = number else {
-        return Number::None;
-    };
-    let d = digit(byte);
-    if 16 <= d {
-        return Number::None;
-    }
-    Number::Is(capped(16 * capped(value) + d))
+    Number::Is(capped(base * capped(value) + d))
 }
 
 // A word with one byte more.
@@ -71,12 +63,12 @@ pub fn longer(word: Word, byte: u8) -> Word {
     Word {
         length: if word.length < 9 { word.length + 1 } else { 9 },
         bytes: (word.bytes << 8) | byte as u64,
-        decimal: longer_decimal(decimal, byte),
-        hex: longer_hex(hex, byte),
+        decimal: with_digit(decimal, 10, byte),
+        hex: with_digit(hex, 16, byte),
     }
 }
 
-pub fn word_of(text: &[u8]) -> Word {
+fn word_of(text: &[u8]) -> Word {
     let mut word = no_word();
     let mut i = 0;
     while i < text.len() {
