@@ -1,16 +1,10 @@
 // Tapes as text: `list` shows the tape on standard input as text, `write` writes the tape of the text on standard input.
 // How that ended goes to the file that the second argument names, where there is one.
-mod steps;
-mod text;
-mod wrong;
-
 use lines::Form;
 use streams::Ended;
 use streams::Out;
 use streams::Word;
 use tape::Written;
-use text::Fault;
-use text::Text;
 
 // The tape of first boxes and step words, written whole or not at all.
 fn write_words(first: u16, words: &[u64]) -> Ended {
@@ -43,19 +37,13 @@ fn write_row(first: u16, row: &[u64; 5459], steps: usize) -> Ended {
 }
 
 fn write_text() -> Ended {
-    // One place more than a tape of 4,096 bytes has steps, so that a longer one is refused by 11.
     let mut row = [0u64; 5459];
-    let text = text::read_text(&mut row);
-    if text.failed {
-        return Ended::Failed;
-    }
-    let fault = text.fault;
-    match fault {
-        Fault::Wrong(wrong) => {
-            wrong::say_line(text.line, wrong);
-            Ended::Refused
-        }
-        Fault::None => write_row(text.first, &row, text.steps),
+    let taken = text_form::read_text(&mut row);
+    let ended = taken.ended;
+    match ended {
+        Ended::Well => write_row(taken.first, &row, taken.steps),
+        Ended::Refused => Ended::Refused,
+        Ended::Failed => Ended::Failed,
     }
 }
 

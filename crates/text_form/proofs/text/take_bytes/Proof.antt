@@ -2,8 +2,8 @@
 use Prim.Native.Nat.{_-_}
 use native.Mathlib.Omega.{arith}
 use lib.ListN.{length}
-use Rattle.texts.proofs.text.take_bytes.Statement.{statement}
-use Rattle.texts.proofs.text.take_bytes.Tie as tie
+use Rattle.text_form.proofs.text.take_bytes.Statement.{statement}
+use Rattle.text_form.proofs.text.take_bytes.Tie as tie
 
 abbrev Inv-loop : tie.InvT-loop
 Inv-loop row₀ bytes text₀ i₀ row text i = Unit {0}

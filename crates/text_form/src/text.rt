@@ -90,7 +90,7 @@ fn end_word(mut text: Text) -> Text {
     text
 }
 
-// A step's word into the row, so many times. The row has one place more than a tape has steps: what does not fit is too much already.
+// A step's word into the row, so many times; what does not fit is left out, as the row then holds too much for a tape.
 fn put_steps(row: &mut [u64; 5459], steps: usize, word: u64, times: u64) -> usize {
     let mut to = steps;
     let mut k = 0;
@@ -197,7 +197,7 @@ fn take_some(mut text: Text, row: &mut [u64; 5459]) -> Text {
 }
 
 // The text on standard input, its step words in the row.
-pub(crate) fn read_text(row: &mut [u64; 5459]) -> Text {
+pub(crate) fn take_text(row: &mut [u64; 5459]) -> Text {
     let mut text = no_text();
     // No input is that long.
     let mut reads: u64 = 18446744073709551615;

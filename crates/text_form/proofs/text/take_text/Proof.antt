@@ -1,7 +1,7 @@
--- `read_text` is safe and ends: the measure is the number of reads that are left.
+-- `take_text` is safe and ends: the measure is the number of reads that are left.
 use native.Mathlib.Omega.{arith}
-use Rattle.texts.proofs.text.read_text.Statement.{statement}
-use Rattle.texts.proofs.text.read_text.Tie as tie
+use Rattle.text_form.proofs.text.take_text.Statement.{statement}
+use Rattle.text_form.proofs.text.take_text.Tie as tie
 
 abbrev Inv-loop : tie.InvT-loop
 Inv-loop row₀ text₀ reads₀ row text reads = Unit {0}
@@ -33,8 +33,8 @@ loop-again c = tt
 returns-2 : tie.Need-returns-2 Inv-loop μ-loop
 returns-2 c = tt
 
-pub read-text-spec : {M : Type 1} → statement M
-read-text-spec =
+pub take-text-spec : {M : Type 1} → statement M
+take-text-spec =
     tie.close
     (tie.spec
     Inv-loop

@@ -1,8 +1,8 @@
 -- `put_steps` is safe and ends: the measure is the number of steps that are left to put.
 use Prim.Native.Nat.{_-_}
 use native.Mathlib.Omega.{arith}
-use Rattle.texts.proofs.text.put_steps.Statement.{statement}
-use Rattle.texts.proofs.text.put_steps.Tie as tie
+use Rattle.text_form.proofs.text.put_steps.Statement.{statement}
+use Rattle.text_form.proofs.text.put_steps.Tie as tie
 
 abbrev Inv-loop : tie.InvT-loop
 Inv-loop row₀ steps word times to₀ k₀ row to k = Unit {0}
