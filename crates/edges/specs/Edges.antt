@@ -17,9 +17,9 @@ use Rattle.state.specs.State.{fresh, allDifferent, properDesk, proper}
 use Rattle.parlour.specs.Steps.{hereAt, applied, takenIf, taken}
 use Rattle.promise.specs.Promise.{after}
 use Rattle.tape.specs.Bits.{bit, odd, bits, num, bitsOf, word}
-use Rattle.tape.specs.Layout.{fieldsAllowed, legal, mark}
+use Rattle.tape.specs.Layout.{fieldsAllowed, legal}
 use Rattle.tape.specs.Printed.{stopsBox15}
-use Rattle.tape.specs.Reading.{begins, stepAt, endAt, kindAt, readAt, Result, given, refused, readFrom, readSteps, firstBoxes, headOf, readTape}
+use Rattle.tape.specs.Reading.{begins, stepAt, endAt, kindAt, readAt, Result, given, refused, readFrom, readSteps, boxesIn, headOf, readIn, readTape}
 
 -- a row: boxes added, removed and answered, with the majority's yes or no; a tape, with what reading it comes to;
 -- or first boxes, a step and the steps before it, the latest first, with the step's number
@@ -67,6 +67,6 @@ Hold (row ∷ rows) = Says row × Hold rows
 pub edges-hold : Hold edges
 unfolding after taken takenIf applied hereAt effectOf ruled ask askPair askWith begun marked deliver decided allowed steady commit adoptOr
     advanceFrom advance refuse copies merged firstPlace placeOf withChange outside joinedWith everyMajority askedBoxes times each unions those weigh one majority
-    majorityOf ownNotes fresh allDifferent properDesk proper all many laid bit odd bits num bitsOf word fieldsAllowed legal mark begins stepAt endAt
-    kindAt readAt readFrom readSteps firstBoxes headOf readTape
+    majorityOf ownNotes fresh allDifferent properDesk proper all many laid bit odd bits num bitsOf word fieldsAllowed legal begins stepAt endAt
+    kindAt readAt readFrom readSteps boxesIn headOf readIn
 edges-hold = (refl, (refl, (refl, (refl, (refl, (refl, (refl, (refl, (refl, (refl, (refl, (refl, (refl, tt)))))))))))))

@@ -1,38 +1,37 @@
--- The words of an accepted tape are all steps (`accepted-step`), so that playing one takes its step (`accepted-played`).
-use mathlib.Core.Path.{_≡_, refl, sym, _∙_}
+-- A word that the tape takes for a step has one, which playing it takes (`word-plays`); the words of an accepted tape are such (`accepted-plays`).
+use mathlib.Core.Path.{_≡_, refl, sym}
 use mathlib.Core.Logic.{_≢_}
 use Prim.Native.Nat.{ℕ, zero, suc, _<_}
 use mathlib.Core.List.{List, [], _∷_}
 use mathlib.Core.Bool.{true}
 use native.Mathlib.Omega.{arith}
-use lib.ListN.{length, take, drop, getD}
+use lib.ListN.{length, take, getD}
 use borrow.Author.Tests.{lt-ltb}
-use Rattle.tape.specs.Bits.{bits, bitsOf, num}
+use Rattle.tape.specs.Bits.{bits, num}
+use Rattle.tape.specs.Edition.{firstEdition}
 use Rattle.tape.specs.Layout.{width, fieldsOf, fieldsIn}
 use Rattle.tape.specs.Reading.{given, readTape}
 use Rattle.tape.specs.Writing.{wide, allSteps}
 use Rattle.tape.specs.declared.Fields.{Fields}
-use Rattle.tape.proofs.ByteLaws.{length-bitsOf}
 use Rattle.tape.proofs.StepLaws.{wide-none}
-use Rattle.tape.proofs.TapeLaws.{head-given, read-good}
 use Rattle.tape.proofs.WritingLaws.{all-cons}
-use Rattle.tape.proofs.RoundTrip.{part-again}
+use Rattle.tape.proofs.RoundTrip.{accepted-part}
 use Rattle.devices.specs.declared.Step.{Step}
 use Rattle.devices.specs.declared.Step.the-variants.{Ask, Advance, Deliver, Lose, Repeat, Stop}
-use Rattle.state.specs.declared.Run.{Run}
 use Rattle.parlour.specs.Steps.{taken}
-use Rattle.replay.specs.Replay.{kinds, stepOf, played}
+use Rattle.replay.specs.Replay.{kinds, stepOf}
+use Rattle.replay.specs.Statements.{Plays}
 use Rattle.replay.specs.declared.Decoded.{Decoded}
 use Rattle.replay.specs.declared.Decoded.the-variants as D
 use Rattle.replay.proofs.Words.{step-is, played-step}
 
 -- what a word decodes to is a step
-pub record IsStep (d : Decoded) : Type 0 where
-  pub step : Step
-  pub is : d ≡ D.Step step
+record IsStep (d : Decoded) : Type 0 where
+  step : Step
+  is : d ≡ D.Step step
 
 -- each kind that has a width has a step
-of-wide : (f : Fields) (k : ℕ) → width 1 k ≢ 0 → IsStep (getD (kinds f) k D.NoStep)
+of-wide : (f : Fields) (k : ℕ) → width firstEdition k ≢ 0 → IsStep (getD (kinds f) k D.NoStep)
 of-wide f zero h = record { step = Ask (f .first) (f .second) (record { added = f .third; removed = f .fourth }); is = refl }
 of-wide f (suc zero) h = record { step = Advance (f .first); is = refl }
 of-wide f (suc (suc zero)) h = record { step = Deliver (f .first); is = refl }
@@ -41,24 +40,18 @@ of-wide f (suc (suc (suc (suc zero)))) h = record { step = Repeat (f .first); is
 of-wide f (suc (suc (suc (suc (suc zero))))) h = record { step = Stop (f .first); is = refl }
 of-wide f (suc (suc (suc (suc (suc (suc k)))))) h = absurd (h refl)
 
-word-step : (x : ℕ) → 0 < wide 1 x → IsStep (stepOf x)
+pub word-plays : (x : ℕ) → 0 < wide firstEdition x → Plays x
 unfolding fieldsIn fieldsOf
-word-step x h =
-    let some : width 1 (num (take 3 (bits 64 x))) ≢ 0 = λ e. omega (arith, wide-none 1 x e) in
-    let d = of-wide (fieldsIn 1 x) (num (take 3 (bits 64 x))) some in
-    record { step = d .step; is = sym (step-is x (fieldsIn 1 x) (D.Step (d .step)) (lt-ltb _ _ h) refl (sym (d .is))) }
+word-plays x h =
+    let some : width firstEdition (num (take 3 (bits 64 x))) ≢ 0 = λ e. omega (arith, wide-none firstEdition x e) in
+    let d = of-wide (fieldsIn firstEdition x) (num (take 3 (bits 64 x))) some in
+    let is : stepOf x ≡ D.Step (d .step) = sym (step-is x (fieldsIn firstEdition x) (D.Step (d .step)) (lt-ltb _ _ h) refl (sym (d .is))) in
+    record { step = d .step; is = is; takes = λ r. sym (played-step x r (stepOf x) refl (d .step) (taken (d .step) r) is refl) }
 
-each-wide : (xs : List ℕ) → allSteps 1 xs ≡ true → (i : ℕ) → i < length xs → 0 < wide 1 (getD xs i 0)
+each-wide : (xs : List ℕ) → allSteps firstEdition xs ≡ true → (i : ℕ) → i < length xs → 0 < wide firstEdition (getD xs i 0)
 each-wide [] h i l = absurd (omega arith)
-each-wide (x ∷ xs) h zero l = all-cons 1 x xs h .0
-each-wide (x ∷ xs) h (suc i) l = each-wide xs (all-cons 1 x xs h .1) i (omega arith)
+each-wide (x ∷ xs) h zero l = all-cons firstEdition x xs h .0
+each-wide (x ∷ xs) h (suc i) l = each-wide xs (all-cons firstEdition x xs h .1) i (omega arith)
 
-module _ (tape xs : List ℕ) (accepted : readTape tape ≡ given xs) (i : ℕ) (below : i < length xs) where
-  pub accepted-step : IsStep (stepOf (getD xs i 0))
-  accepted-step =
-      let part = drop 2 tape in
-      let again = part-again 1 (bitsOf part) (length part) xs (length-bitsOf part) (sym (read-good tape (head-given tape xs accepted)) ∙ accepted) in
-      word-step (getD xs i 0) (each-wide xs (again .0) i below)
-
-  pub accepted-played : (r : Run) → played (getD xs i 0) r ≡ taken (accepted-step .step) r
-  accepted-played r = sym (played-step (getD xs i 0) r (stepOf (getD xs i 0)) refl (accepted-step .step) (taken (accepted-step .step) r) (accepted-step .is) refl)
+pub accepted-plays : (tape xs : List ℕ) → readTape tape ≡ given xs → (i : ℕ) → i < length xs → Plays (getD xs i 0)
+accepted-plays tape xs e i h = word-plays (getD xs i 0) (each-wide xs (accepted-part firstEdition tape xs e .0) i h)

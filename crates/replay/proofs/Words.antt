@@ -9,7 +9,8 @@ use lib.ListN.{take, drop, getD, List·getD-eq-default}
 use lib.Pow.{pow-pos, pow-mono}
 use Rattle.sets.specs.Choice.{pick}
 use Rattle.tape.specs.Bits.{bits, num}
-use Rattle.tape.specs.Layout.{Field, fields, numbers, fieldsOf, fieldsIn, noField}
+use Rattle.tape.specs.Edition.{Field, firstEdition}
+use Rattle.tape.specs.Layout.{fields, numbers, fieldsOf, fieldsIn, noField}
 use Rattle.tape.specs.Writing.{isStep}
 use Rattle.tape.specs.declared.Fields.{Fields}
 use Rattle.tape.proofs.BitLaws.{num-take-lt}
@@ -38,7 +39,7 @@ abbrev Widths : List Field → Type 0
 Widths xs =
     (getD xs 0 noField .width ≤ 8) × (getD xs 1 noField .width ≤ 8) × (getD xs 2 noField .width ≤ 16) × (getD xs 3 noField .width ≤ 16)
 
-widths : (k : ℕ) → Widths (fields 1 k)
+widths : (k : ℕ) → Widths (fields firstEdition k)
 widths zero = (omega arith, omega arith, omega arith, omega arith)
 widths (suc zero) = (omega arith, omega arith, omega arith, omega arith)
 widths (suc (suc zero)) = (omega arith, omega arith, omega arith, omega arith)
@@ -47,11 +48,11 @@ widths (suc (suc (suc (suc zero)))) = (omega arith, omega arith, omega arith, om
 widths (suc (suc (suc (suc (suc zero))))) = (omega arith, omega arith, omega arith, omega arith)
 widths (suc (suc (suc (suc (suc (suc k)))))) = (omega arith, omega arith, omega arith, omega arith)
 
-pub fields-small : (x : ℕ) (f : Fields) → f ≡ fieldsIn 1 x → Small f
+pub fields-small : (x : ℕ) (f : Fields) → f ≡ fieldsIn firstEdition x → Small f
 unfolding fieldsIn fieldsOf
 fields-small x f e =
     let k = num (take 3 (bits 64 x)) in
-    let below = numbers-lt (fields 1 k) (drop 3 (bits 64 x)) in
+    let below = numbers-lt (fields firstEdition k) (drop 3 (bits 64 x)) in
     let w = widths k in
     subst Small (sym e) (record { first = below 0 8 (w .0); second = below 1 8 (w .1); third = below 2 16 (w .2); fourth = below 3 16 (w .3) })
 
@@ -63,13 +64,13 @@ of-kind f k e = ap (λ n. getD (kinds f) n D.NoStep) (sym e)
 pub of-no-kind : (f : Fields) → 6 ≤ f .kind → D.NoStep ≡ ofFields f
 of-no-kind f h = sym (List·getD-eq-default (kinds f) D.NoStep h)
 
-pub step-is : (x : ℕ) (f : Fields) (d : Decoded) → isStep 1 x ≡ true → f ≡ fieldsIn 1 x → d ≡ ofFields f → d ≡ stepOf x
+pub step-is : (x : ℕ) (f : Fields) (d : Decoded) → isStep firstEdition x ≡ true → f ≡ fieldsIn firstEdition x → d ≡ ofFields f → d ≡ stepOf x
 unfolding stepOf
-step-is x f d e g h = h ∙ ap ofFields g ∙ sym (ap (λ b. pick b (ofFields (fieldsIn 1 x)) D.NoStep) e)
+step-is x f d e g h = h ∙ ap ofFields g ∙ sym (ap (λ b. pick b (ofFields (fieldsIn firstEdition x)) D.NoStep) e)
 
-pub step-none : (x : ℕ) → isStep 1 x ≡ false → D.NoStep ≡ stepOf x
+pub step-none : (x : ℕ) → isStep firstEdition x ≡ false → D.NoStep ≡ stepOf x
 unfolding stepOf
-step-none x e = sym (ap (λ b. pick b (ofFields (fieldsIn 1 x)) D.NoStep) e)
+step-none x e = sym (ap (λ b. pick b (ofFields (fieldsIn firstEdition x)) D.NoStep) e)
 
 module _ (x : ℕ) (r : Run) (d : Decoded) (decoded : d ≡ stepOf x) where
   pub played-step : (step : Step) (s : Stepped) → d ≡ D.Step step → s ≡ taken step r → s ≡ played x r

@@ -11,6 +11,7 @@ use Rattle.state.specs.declared.Run.{Run}
 use Rattle.state.specs.declared.Stepped.{Stepped}
 use Rattle.parlour.specs.Steps.{taken}
 use Rattle.tape.specs.declared.Fields.{Fields}
+use Rattle.tape.specs.Edition.{firstEdition}
 use Rattle.tape.specs.Layout.{fieldsIn}
 use Rattle.tape.specs.Writing.{isStep}
 use Rattle.replay.specs.declared.Decoded.{Decoded}
@@ -33,12 +34,17 @@ ofFields f = getD (kinds f) (f .kind) D.NoStep
 
 -- the step that a word is
 unfoldable pub stepOf : ℕ → Decoded
-stepOf word = pick (isStep 1 word) (ofFields (fieldsIn 1 word)) D.NoStep
+stepOf word = pick (isStep firstEdition word) (ofFields (fieldsIn firstEdition word)) D.NoStep
 
--- the step taken; a word that is none is refused by 14, and "state and buffers stay as given"
+-- the number that each case is: a step is no refusal, "a step word that is none" is 14
+abbrev pub decodedNumber : Decoded → ℕ
+decodedNumber (D.Step step) = 0
+decodedNumber D.NoStep = 14
+
+-- the step taken; a word that is none is refused by its number, and "state and buffers stay as given"
 abbrev pub playedBy : Decoded → Run → Stepped
 playedBy (D.Step step) r = taken step r
-playedBy D.NoStep r = record { outcome = Refused 14; run = r }
+playedBy D.NoStep r = record { outcome = Refused (decodedNumber D.NoStep); run = r }
 
 unfoldable pub played : ℕ → Run → Stepped
 played word r = playedBy (stepOf word) r

@@ -8,7 +8,7 @@ use native.Mathlib.Omega.{arith}
 use lib.ListN.{length, take, drop, getD, length-append, length-drop, replicate, length-replicate, take-append-drop}
 use lib.Seq.{length-take-le, take-append-le, take-at, drop-at, drop-drop, drop-nil, getD-drop}
 use lib.Bits.{bitOr}
-use Rattle.tape.specs.Bits.{num, bits, bitsOf, window, Ahead}
+use Rattle.tape.specs.Bits.{num, bits, bitsOf, Bytes, window, Ahead}
 use Rattle.tape.specs.Writing.{pack}
 use Rattle.tape.proofs.BitLaws.{length-bits, num-append, num-lt, num-bits-small, num-drop, num-take-lt, num-zeros, bits-is, bits-part, cut-append}
 use Rattle.tape.proofs.Shifts.{push, shl-out}
@@ -142,10 +142,6 @@ ahead-is s p x e w h l =
         (mod-mod (x * 2 ^ r) (2 ^ 64) ∙ ap (λ (a : ℕ). x * 2 ^ r % 2 ^ a) m ∙ shl-out x (64 - r) r
         ∙ ap₂ (λ (a b : ℕ). a % 2 ^ b * 2 ^ r) e (sym n)
         ∙ sym (num-append (drop r v) (replicate r false) ∙ ap₂ (λ (a b : ℕ). num (drop r v) * 2 ^ a + b) (length-replicate r false) (num-zeros r) ∙ add-zero (num (drop r v) * 2 ^ r) ∙ ap (λ (a : ℕ). a * 2 ^ r) (num-drop v r)))
-
--- every element is a byte
-abbrev pub Bytes : List ℕ → Type 0
-Bytes xs = (i : ℕ) → getD xs i 0 < 256
 
 pub bytes-append : (a b : List ℕ) → Bytes a → Bytes b → Bytes (a ++ b)
 bytes-append [] b p q i = q i

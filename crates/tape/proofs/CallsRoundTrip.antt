@@ -9,6 +9,7 @@ use lib.ListN.{length, take, drop}
 use lib.Seq.{take-at}
 use lib.Dec.{leb}
 use borrow.Author.Tests.{leb-true}
+use Rattle.tape.specs.Bits.{Bytes}
 use Rattle.tape.specs.Reading.{Result, given, refused, readTape, firstBoxes}
 use Rattle.tape.specs.Writing.{writeTape}
 use Rattle.tape.specs.Promises.{answer, recorded, answerWith, heldBy, ReadPromise, WritePromise}
@@ -16,7 +17,6 @@ use Rattle.tape.specs.declared.Read.{Read}
 use Rattle.tape.specs.declared.Read.the-variants.{Steps}
 use Rattle.tape.specs.declared.Written.{Written}
 use Rattle.tape.specs.declared.Written.the-variants as W
-use Rattle.tape.proofs.ByteLaws.{Bytes}
 use Rattle.tape.proofs.PromiseLaws.{success-kept}
 use Rattle.tape.proofs.RoundTrip.{read-written, written-again}
 use Rattle.tape.proofs.Settled.{read-settled, write-settled}

@@ -7,10 +7,10 @@ use native.Mathlib.Nat.{add-zero, zero-add}
 use native.Mathlib.Omega.{arith}
 use lib.ListN.{length, take, drop, getD, set, length-append, take-append-drop, length-take, length-drop, drop-of-length-le}
 use lib.Seq.{take-append-le, drop-append-le, take-append-add, drop-append-add, length-take-le, take-at, drop-at, drop-set-add, take-set-le, getD-drop, drop-drop, take-all}
-use Rattle.tape.specs.Bits.{num, bits, bitsOf, window, overlaid}
+use Rattle.tape.specs.Bits.{num, bits, bitsOf, Bytes, window, overlaid}
 use Rattle.tape.specs.Writing.{pack}
 use Rattle.tape.proofs.BitLaws.{length-bits, num-append, num-take, num-drop, bits-mod, bits-num, bits-append}
-use Rattle.tape.proofs.ByteLaws.{append-nil, length-bitsOf, bitsOf-append, drop-bitsOf, window-three, Bytes, bytes-append, bytes-drop, bytes-pack, length-pack, bitsOf-pack, bitsOf-inj}
+use Rattle.tape.proofs.ByteLaws.{append-nil, length-bitsOf, bitsOf-append, drop-bitsOf, window-three, bytes-append, bytes-drop, bytes-pack, length-pack, bitsOf-pack, bitsOf-inj}
 
 module _ (l : List Bool) (p : ℕ) (f : List Bool) (h : p + length f ≤ length l) where
   pub length-overlaid : length (overlaid l p f) ≡ length l

@@ -1,16 +1,19 @@
--- Laws of the layout. Of the table they use no more than this: a step takes 6 to 54 bits, an end mark 1 to 6.
+-- Laws of the layout. Of an edition they use no more than what it carries: a step takes 6 to 54 bits.
 use mathlib.Core.Path.{_≡_, refl, sym, ap, _∙_}
 use mathlib.Core.Logic.{_≢_}
 use Prim.Native.Nat.{ℕ, zero, suc, _+_, _-_, _^_, _≤_}
 use mathlib.Core.List.{List, [], _∷_}
 use mathlib.Core.Bool.{Bool, true, false, cond}
 use native.Mathlib.Omega.{arith}
-use lib.ListN.{length, take, drop, getD}
+use lib.ListN.{take, drop, getD}
 use lib.Seq.{take-take, drop-drop}
 use lib.Dec.{leb, eqb}
 use borrow.Author.Tests.{le-leb, leb-true, eqb-true}
 use Rattle.tape.specs.Bits.{num, bits, fieldAt}
-use Rattle.tape.specs.Layout.{Field, rows, fields, span, stepWidth, width, fieldsAllowed, legal, mark, numbers, fieldsOf, noField, row}
+use Rattle.tape.specs.Edition.{Field, span, stepWidth, fits, every, Edition, firstEdition, editionOf}
+use Rattle.tape.specs.Layout.{fields, width, fieldsAllowed, legal, numbers, fieldsOf, noField, row}
+use Rattle.tape.specs.declared.edition.Edition.{Edition as Named}
+use Rattle.tape.specs.declared.edition.Edition.the-variants as E
 use Rattle.tape.proofs.BitLaws.{length-bits, num-take-lt, drop-take}
 use Rattle.tape.proofs.WordLaws.{field-inside}
 
@@ -24,41 +27,19 @@ pub both : (a : Bool) {b : Bool} → cond a b false ≡ true → (a ≡ true) ×
 both true h = (refl, h)
 both false h = absurd (let z : _≡_ {A = ℕ} 0 1 = cc in omega arith)
 
--- a test that is computed over a whole table holds at each row
-every : (List Field → Bool) → List (List Field) → Bool
-every test [] = true
-every test (x ∷ xs) = cond (test x) (every test xs) false
-
+-- a test that every row of a table passes holds at each row
 every-at : (test : List Field → Bool) → test [] ≡ true → (l : List (List Field)) → every test l ≡ true → (k : ℕ) → test (getD l k []) ≡ true
-unfolding every
 every-at test n [] h k = n
 every-at test n (x ∷ xs) h zero = both (test x) h .0
 every-at test n (x ∷ xs) h (suc k) = every-at test n xs (both (test x) h .1) k
 
 -- a step takes 6 to 54 bits
-fits : List Field → Bool
-fits xs = cond (eqb (stepWidth xs) 0) true (cond (leb 6 (stepWidth xs)) (leb (stepWidth xs) 54) false)
-
 fits-is : (w : ℕ) → cond (eqb w 0) true (cond (leb 6 w) (leb w 54) false) ≡ true → (w ≢ 0 → 6 ≤ w) × (w ≤ 54)
 fits-is w h = go (eqb w 0) refl h
   where
     go : (a : Bool) → eqb w 0 ≡ a → cond a true (cond (leb 6 w) (leb w 54) false) ≡ true → (w ≢ 0 → 6 ≤ w) × (w ≤ 54)
     go true e h = let z : w ≡ 0 = eqb-true w 0 e in ((λ n. absurd (n z)), omega arith)
     go false e h = let b = both (leb 6 w) h in ((λ _. leb-true 6 w (b .0)), leb-true w 54 (b .1))
-
-rows-fit : (ed : ℕ) → every fits (rows ed) ≡ true
-unfolding every fits
-rows-fit zero = refl
-rows-fit (suc zero) = refl
-rows-fit (suc (suc n)) = refl
-
-pub mark-least : (ed : ℕ) → 1 ≤ length (mark ed)
-unfolding mark
-mark-least ed = omega arith
-
-pub mark-most : (ed : ℕ) → length (mark ed) ≤ 6
-unfolding mark
-mark-most ed = omega arith
 
 -- the bits of one field more
 span-next : (xs : List Field) (i : ℕ) → span (take (suc i) xs) ≡ span (take i xs) + getD xs i noField .width
@@ -80,14 +61,12 @@ numbers-at [] f i = refl
 numbers-at (x ∷ xs) f zero = refl
 numbers-at (x ∷ xs) f (suc i) = numbers-at xs (drop (x .width) f) i ∙ ap (λ l. num (take (getD xs i noField .width) l)) (drop-drop (span (take i xs)) (x .width) f)
 
-module _ (ed : ℕ) where
+module _ (ed : Edition) where
   pub width-least : (k : ℕ) → width ed k ≢ 0 → 6 ≤ width ed k
-  unfolding fits
-  width-least k = fits-is (width ed k) (every-at fits refl (rows ed) (rows-fit ed) k) .0
+  width-least k = fits-is (width ed k) (every-at fits refl (ed .rows) (ed .rows-fit) k) .0
 
   pub width-most : (k : ℕ) → width ed k ≤ 54
-  unfolding fits
-  width-most k = fits-is (width ed k) (every-at fits refl (rows ed) (rows-fit ed) k) .1
+  width-most k = fits-is (width ed k) (every-at fits refl (ed .rows) (ed .rows-fit) k) .1
 
   -- a step's fields lie in a word
   span-fits : (k : ℕ) → 3 + span (fields ed k) ≤ 64
@@ -160,30 +139,31 @@ in-plain (x ∷ xs) f h =
     go true = refl
     go false = refl
 
--- the first edition's fields are such
-rows-plain : (k : ℕ) → plain (fields 1 k) ≡ true
-unfolding every plain allFull full
-rows-plain k = every-at plain refl (rows 1) refl k
+-- the fields of the code's editions are such
+rows-plain : (e : Named) (k : ℕ) → plain (fields (editionOf e) k) ≡ true
+unfolding plain allFull full
+rows-plain E.First k = every-at plain refl (firstEdition .rows) refl k
 
 first-fits : (xs : List Field) → stepWidth xs ≢ 0 → 3 + row xs .first ≤ stepWidth xs
 first-fits [] h = absurd (h refl)
 first-fits (x ∷ xs) h = omega arith
 
--- a step word of the first edition is judged by its first field
-pub legal-first : (x k : ℕ) → k ≡ num (take 3 (bits 64 x)) → width 1 k ≢ 0
-    → leb (fieldAt x 3 (row (fields 1 k) .first)) (row (fields 1 k) .most) ≡ legal 1 (take (width 1 k) (bits 64 x))
+-- a step word of such an edition is judged by its first field
+pub legal-first : (e : Named) (x k : ℕ) → k ≡ num (take 3 (bits 64 x)) → width (editionOf e) k ≢ 0
+    → leb (fieldAt x 3 (row (fields (editionOf e) k) .first)) (row (fields (editionOf e) k) .most) ≡ legal (editionOf e) (take (width (editionOf e) k) (bits 64 x))
 unfolding legal
-legal-first x k e h =
+legal-first edition x k e h =
+    let ed = editionOf edition in
     let b = bits 64 x in
-    let w = width 1 k in
-    let r = row (fields 1 k) in
-    let l = width-least 1 k h in
-    let m = first-fits (fields 1 k) h in
+    let w = width ed k in
+    let r = row (fields ed k) in
+    let l = width-least ed k h in
+    let m = first-fits (fields ed k) h in
     let s : w ≡ 3 + (w - 3) = omega arith in
     let g : num (take 3 (take w b)) ≡ k = ap num (take-take 3 w b (omega arith)) ∙ sym e in
     let d : take (r .first) (drop 3 (take w b)) ≡ take (r .first) (drop 3 b) =
     ap (λ n. take (r .first) (drop 3 (take n b))) s
     ∙ ap (take (r .first)) (drop-take 3 (w - 3) b (rw length-bits (omega arith)))
     ∙ take-take (r .first) (w - 3) (drop 3 b) (omega arith) in
-    ap (λ n. leb n (r .most)) (field-inside x 3 (r .first) (omega (arith, width-most 1 k)) ∙ ap num (sym d))
-    ∙ sym (ap (λ n. fieldsAllowed (fields 1 n) (drop 3 (take w b))) g ∙ in-plain (fields 1 k) (drop 3 (take w b)) (rows-plain k))
+    ap (λ n. leb n (r .most)) (field-inside x 3 (r .first) (omega (arith, width-most ed k)) ∙ ap num (sym d))
+    ∙ sym (ap (λ n. fieldsAllowed (fields ed n) (drop 3 (take w b))) g ∙ in-plain (fields ed k) (drop 3 (take w b)) (rows-plain edition k))

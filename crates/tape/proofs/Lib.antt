@@ -12,3 +12,4 @@ pub mod PromiseLaws
 pub mod Settled
 pub mod RoundTrip
 pub mod CallsRoundTrip
+pub mod Statements

@@ -7,19 +7,21 @@ use mathlib.Core.Bool.{Bool, true, false, cond}
 use native.Mathlib.Nat.{add-zero}
 use native.Mathlib.Omega.{arith}
 use lib.ListN.{length, take, drop, length-append, length-take, length-drop}
-use lib.Seq.{take-append-le, take-all, drop-drop}
+use lib.Seq.{take-append-le, take-all, take-take, drop-drop}
 use lib.Dec.{leb, ltb, eqb}
-use borrow.Author.Tests.{lt-ltb, le-ltb, le-leb, lt-leb, eq-eqb, ne-eqb, leb-true, eqb-false, eqb-true, ltb-true, ltb-false}
+use borrow.Author.Tests.{lt-ltb, le-ltb, le-leb, lt-leb, eq-eqb, ne-eqb, leb-true, leb-false, eqb-false, eqb-true, ltb-true, ltb-false}
 use types.Run.{OneOf}
 use denote.Enum.Declared.{tagOf}
-use Rattle.tape.specs.Bits.{bit, num, bits, word, Ahead}
-use Rattle.tape.specs.Layout.{width, legal, mark}
+use Rattle.tape.specs.Bits.{num, bits, fieldAt, word, Ahead}
+use Rattle.tape.specs.Edition.{Edition}
+use Rattle.tape.specs.Layout.{width, legal}
 use Rattle.tape.specs.Reading.{stepAt, kindAt, endAt, begins, readAt, Result, given, refused, more, onward, readFrom}
 use Rattle.tape.specs.Promises.{numberWith, numberAtEnd}
 use Rattle.tape.specs.declared.reading.Reading.{Reading}
 use Rattle.tape.specs.declared.reading.Reading.the-variants.{Step, Refused, End}
 use Rattle.tape.proofs.reading.Reading.{the-type}
 use Rattle.tape.proofs.BitLaws.{length-bits, drop-take}
+use Rattle.tape.proofs.WordLaws.{field-top}
 use Rattle.tape.proofs.LayoutLaws.{cond-has, both, width-least}
 
 module _ (m l : List Bool) where
@@ -30,14 +32,6 @@ module _ (m l : List Bool) where
   begins-short : length l < length m → begins m l ≡ false
   unfolding begins
   begins-short h = simp (lt-leb _ _ h)
-
-  begins-no : num (take (length m) l) ≢ num m → begins m l ≡ false
-  unfolding begins
-  begins-no h = go (leb (length m) (length l))
-    where
-      go : (b : Bool) → cond b (eqb (num (take (length m) l)) (num m)) false ≡ false
-      go true = ne-eqb _ _ h
-      go false = refl
 
   pub begins-is : begins m l ≡ true → (length m ≤ length l) × (num (take (length m) l) ≡ num m)
   unfolding begins
@@ -50,10 +44,30 @@ module _ (m l : List Bool) where
       let k : length m ≤ length (l ++ r) = rw length-append (omega arith) in
       simp (le-leb _ _ h, le-leb _ _ k, take-append-le (length m) l r h)
 
--- a kind that has a step is no end mark of the first edition
-pub step-unmarked : (l : List Bool) (k : ℕ) → num (take 3 l) ≡ k → width 1 k ≢ 0 → begins (mark 1) l ≡ false
-unfolding mark num bit
-step-unmarked l k e h = begins-no (mark 1) l (λ m. h (ap (width 1) (sym e ∙ m)))
+-- the end mark is looked for in a word that has at its top what is left of a tape
+module _ (m : List Bool) (x left : ℕ) (small : length m ≤ 6) where
+  pub mark-short : left < length m → begins m (take left (bits 64 x)) ≡ false
+  mark-short h = begins-short m (take left (bits 64 x)) (rw length-take (omega arith))
+
+  pub mark-field : length m ≤ left → begins m (take left (bits 64 x)) ≡ eqb (fieldAt x 0 (length m)) (num m)
+  unfolding begins
+  mark-field h =
+      let k : length m ≤ length (take left (bits 64 x)) = simp (length-take, length-bits) (omega arith) in
+      simp (le-leb _ _ k, take-take (length m) left (bits 64 x) h, field-top x (length m) (omega arith))
+
+  pub mark-ahead : (t : List Bool) (p : ℕ) → Ahead t p x → p ≤ length t → left ≡ length t - p → begins m (take left (bits 64 x)) ≡ begins m (drop p t)
+  unfolding begins
+  mark-ahead t p a q e = go (leb (length m) left) refl
+    where
+      go : (b : Bool) → leb (length m) left ≡ b → begins m (take left (bits 64 x)) ≡ begins m (drop p t)
+      go true f =
+          let h : length m ≤ left = leb-true _ _ f in
+          let n : length m ≤ length (drop p t) = rw length-drop (omega arith) in
+          mark-field h ∙ ap (λ n. eqb n (num m)) (field-top x (length m) (omega arith) ∙ ap num (a (length m) (omega arith) (omega arith)))
+          ∙ sym (simp (le-leb _ _ n))
+      go false f =
+          let h : left < length m = leb-false _ _ f in
+          mark-short h ∙ sym (begins-short m (drop p t) (rw length-drop (omega arith)))
 
 module _ (t : List Bool) (p : ℕ) where
   pub end-long : p + 8 ≤ length t → endAt t p ≡ Refused 15
@@ -85,25 +99,25 @@ end-drop t p h = go (ltb (length t) (p + 8)) refl (eqb (num (drop p t)) 0) refl
         let l : p + 8 ≤ length t = ltb-false _ _ e in
         end-long (drop p t) 0 (rw length-drop (omega arith)) ∙ sym (end-long t p l)
 
--- the end by the bits ahead
-end-ahead : (t : List Bool) (p x left : ℕ) → Ahead t p x → left ≡ length t - p → 3 ≤ left → endAt (take (left - 3) (drop 3 (bits 64 x))) 0 ≡ endAt t (p + 3)
-end-ahead t p x left a e h = go (ltb (left - 3) 8) refl
+-- the end by the bits ahead, behind a mark of m bits
+pub end-ahead : (t : List Bool) (p x left m : ℕ) → Ahead t p x → p ≤ length t → left ≡ length t - p → m ≤ left → m ≤ 6 → endAt (take (left - m) (drop m (bits 64 x))) 0 ≡ endAt t (p + m)
+end-ahead t p x left m a q e h s = go (ltb (left - m) 8) refl
   where
-    go : (b : Bool) → ltb (left - 3) 8 ≡ b → endAt (take (left - 3) (drop 3 (bits 64 x))) 0 ≡ endAt t (p + 3)
+    go : (b : Bool) → ltb (left - m) 8 ≡ b → endAt (take (left - m) (drop m (bits 64 x))) 0 ≡ endAt t (p + m)
     go true f =
-        let l : left - 3 < 8 = ltb-true _ _ f in
-        let k : 3 + (left - 3) ≤ 57 = omega arith in
-        let m : p + (3 + (left - 3)) ≤ length t = omega arith in
+        let l : left - m < 8 = ltb-true _ _ f in
+        let k : m + (left - m) ≤ 57 = omega arith in
+        let n : p + (m + (left - m)) ≤ length t = omega arith in
         ap (λ z. endAt z 0)
-        (sym (drop-take 3 (left - 3) (bits 64 x) (rw length-bits (omega arith)))
-        ∙ ap (drop 3) (a (3 + (left - 3)) k m)
-        ∙ drop-take 3 (left - 3) (drop p t) (rw length-drop (omega arith))
-        ∙ ap (take (left - 3)) (drop-drop 3 p t)
-        ∙ take-all (left - 3) (drop (p + 3) t) (rw length-drop (omega arith)))
-        ∙ end-drop t (p + 3) (omega arith)
+        (sym (drop-take m (left - m) (bits 64 x) (rw length-bits (omega arith)))
+        ∙ ap (drop m) (a (m + (left - m)) k n)
+        ∙ drop-take m (left - m) (drop p t) (rw length-drop (omega arith))
+        ∙ ap (take (left - m)) (drop-drop m p t)
+        ∙ take-all (left - m) (drop (p + m) t) (rw length-drop (omega arith)))
+        ∙ end-drop t (p + m) (omega arith)
     go false f =
-        let l : 8 ≤ left - 3 = ltb-false _ _ f in
-        end-long (take (left - 3) (drop 3 (bits 64 x))) 0 (simp (length-take, length-drop, length-bits) (omega arith)) ∙ sym (end-long t (p + 3) (omega arith))
+        let l : 8 ≤ left - m = ltb-false _ _ f in
+        end-long (take (left - m) (drop m (bits 64 x))) 0 (simp (length-take, length-drop, length-bits) (omega arith)) ∙ sym (end-long t (p + m) (omega arith))
 
 -- a reading that is a step goes on, within the tape
 abbrev pub Moves : List Bool → ℕ → Reading → Type 0
@@ -111,7 +125,7 @@ Moves t p (Step x q) = (p < q) × (q ≤ length t)
 Moves t p (Refused k) = Unit {0}
 Moves t p End = Unit {0}
 
-module _ (ed : ℕ) (t : List Bool) (p : ℕ) where
+module _ (ed : Edition) (t : List Bool) (p : ℕ) where
   pub step-short : (w : ℕ) → length t < p + w → stepAt ed t p w ≡ Refused 13
   unfolding stepAt
   step-short w h = simp (lt-leb _ _ h)
@@ -132,29 +146,29 @@ module _ (ed : ℕ) (t : List Bool) (p : ℕ) where
   unfolding kindAt
   kind-none k e = simp (eq-eqb _ _ e)
 
-  pub read-mark : begins (mark ed) (drop p t) ≡ true → readAt ed t p ≡ endAt t (p + length (mark ed))
+  pub read-mark : begins (ed .mark) (drop p t) ≡ true → readAt ed t p ≡ endAt t (p + length (ed .mark))
   unfolding readAt
   read-mark e = simp e
 
-  read-short : begins (mark ed) (drop p t) ≡ false → length t < p + 3 → readAt ed t p ≡ Refused 13
+  pub read-short : begins (ed .mark) (drop p t) ≡ false → length t < p + 3 → readAt ed t p ≡ Refused 13
   unfolding readAt
   read-short e h = simp (e, lt-leb _ _ h)
 
-  pub read-kind : (k : ℕ) → begins (mark ed) (drop p t) ≡ false → p + 3 ≤ length t → num (take 3 (drop p t)) ≡ k → readAt ed t p ≡ kindAt ed t p k
+  pub read-kind : (k : ℕ) → begins (ed .mark) (drop p t) ≡ false → p + 3 ≤ length t → num (take 3 (drop p t)) ≡ k → readAt ed t p ≡ kindAt ed t p k
   unfolding readAt
   read-kind k e h f = simp (e, le-leb _ _ h, f)
 
   -- a property of every reading: of a refusal, of the end, and of a step
   pub read-has : (P : Reading → Type 0) → ((k : ℕ) → 0 < k → P (Refused k))
-      → (begins (mark ed) (drop p t) ≡ true → length t < p + length (mark ed) + 8 → num (drop (p + length (mark ed)) t) ≡ 0 → P End)
-      → ((k : ℕ) → begins (mark ed) (drop p t) ≡ false → num (take 3 (drop p t)) ≡ k → width ed k ≢ 0 → p + width ed k ≤ length t
+      → (begins (ed .mark) (drop p t) ≡ true → length t < p + length (ed .mark) + 8 → num (drop (p + length (ed .mark)) t) ≡ 0 → P End)
+      → ((k : ℕ) → begins (ed .mark) (drop p t) ≡ false → num (take 3 (drop p t)) ≡ k → width ed k ≢ 0 → p + width ed k ≤ length t
       → legal ed (take (width ed k) (drop p t)) ≡ true → P (Step (word (take (width ed k) (drop p t))) (p + width ed k)))
       → P (readAt ed t p)
   unfolding readAt kindAt stepAt endAt
   read-has P bad end step =
-      cond-has P (begins (mark ed) (drop p t))
-      (λ m. cond-has P (ltb (length t) (p + length (mark ed) + 8))
-      (λ l. cond-has P (eqb (num (drop (p + length (mark ed)) t)) 0) (λ z. end m (ltb-true _ _ l) (eqb-true _ _ z)) (λ _. bad 15 (omega arith))) (λ _. bad 15 (omega arith)))
+      cond-has P (begins (ed .mark) (drop p t))
+      (λ m. cond-has P (ltb (length t) (p + length (ed .mark) + 8))
+      (λ l. cond-has P (eqb (num (drop (p + length (ed .mark)) t)) 0) (λ z. end m (ltb-true _ _ l) (eqb-true _ _ z)) (λ _. bad 15 (omega arith))) (λ _. bad 15 (omega arith)))
       (λ m. cond-has P (leb (p + 3) (length t))
       (λ _. cond-has P (eqb (width ed k) 0) (λ _. bad 14 (omega arith))
       (λ n. cond-has P (leb (p + width ed k) (length t))
@@ -173,39 +187,13 @@ module _ (ed : ℕ) (t : List Bool) (p : ℕ) where
   unfolding readFrom
   read-from f n h = let e : f - n ≡ suc (f - (n + 1)) = omega arith in rw e
 
--- the first edition, whose end mark is kind 7
-module _ (t : List Bool) (p : ℕ) where
-  pub first-short : length t < p + 3 → readAt 1 t p ≡ Refused 13
-  unfolding mark
-  first-short h = read-short 1 t p (begins-short (mark 1) (drop p t) (rw length-drop (omega arith))) h
-
-  first-end : p + 3 ≤ length t → num (take 3 (drop p t)) ≡ 7 → readAt 1 t p ≡ endAt t (p + 3)
-  unfolding mark num bit
-  first-end h e = read-mark 1 t p (begins-yes (mark 1) (drop p t) (rw length-drop (omega arith)) e)
-
-  first-kind : (k : ℕ) → p + 3 ≤ length t → num (take 3 (drop p t)) ≡ k → k ≢ 7 → readAt 1 t p ≡ kindAt 1 t p k
-  unfolding mark num bit
-  first-kind k h e n = read-kind 1 t p k (begins-no (mark 1) (drop p t) (λ m. n (sym e ∙ m))) h e
-
-  pub first-step : (k : ℕ) → p + 3 ≤ length t → num (take 3 (drop p t)) ≡ k → width 1 k ≢ 0 → readAt 1 t p ≡ stepAt 1 t p (width 1 k)
-  first-step k h e n = first-kind k h e (λ z. n (ap (width 1) z)) ∙ kind-step 1 t p k n
-
-  -- where no step begins with the kind
-  pub first-none : (x left k : ℕ) → Ahead t p x → left ≡ length t - p → 3 ≤ left → num (take 3 (drop p t)) ≡ k → width 1 k ≡ 0
-      → cond (eqb k 7) (endAt (take (left - 3) (drop 3 (bits 64 x))) 0) (Refused 14) ≡ readAt 1 t p
-  first-none x left k a l h e z = go (eqb k 7) refl
-    where
-      go : (b : Bool) → eqb k 7 ≡ b → cond b (endAt (take (left - 3) (drop 3 (bits 64 x))) 0) (Refused 14) ≡ readAt 1 t p
-      go true f = end-ahead t p x left a l h ∙ sym (first-end (omega arith) (e ∙ eqb-true _ _ f))
-      go false f = sym (first-kind k (omega arith) e (eqb-false _ _ f) ∙ kind-none 1 t p k z)
-
 -- one step more, and what is left
 pub more-is : (x : ℕ) (o : Result) (l : List ℕ) → more x o ≡ given l → (ys : List ℕ) × (o ≡ given ys) × (l ≡ x ∷ ys)
 more-is x (given ys) l e = (ys, refl, cc)
 more-is x (refused k) l e = let z : _≡_ {A = ℕ} 0 1 = cc in absurd (omega arith)
 
 -- there are fewer steps than the fuel
-pub steps-fewer : (ed f : ℕ) (t : List Bool) (p : ℕ) (xs : List ℕ) → readFrom ed f t p ≡ given xs → length xs < f
+pub steps-fewer : (ed : Edition) (f : ℕ) (t : List Bool) (p : ℕ) (xs : List ℕ) → readFrom ed f t p ≡ given xs → length xs < f
 unfolding readFrom
 steps-fewer ed zero t p xs e = let q : _≡_ {A = ℕ} 0 1 = cc in absurd (omega arith)
 steps-fewer ed (suc f) t p xs e = go (readAt ed t p) e (λ (q : ℕ) (ys : List ℕ) (g : readFrom ed f t q ≡ given ys). steps-fewer ed f t q ys g)
@@ -227,7 +215,7 @@ NumberedAt (Step x q) = Unit {0}
 NumberedAt (Refused k) = 0 < k
 NumberedAt End = Unit {0}
 
-pub numbered-from : (ed f : ℕ) (t : List Bool) (p : ℕ) → Numbered (readFrom ed f t p)
+pub numbered-from : (ed : Edition) (f : ℕ) (t : List Bool) (p : ℕ) → Numbered (readFrom ed f t p)
 unfolding readFrom
 numbered-from ed zero t p = omega arith
 numbered-from ed (suc f) t p =

@@ -1,5 +1,5 @@
--- The round trip, both ways. Over the step part of any edition: `read-part` and `part-again`; over whole tapes: `read-written`
--- (what was written reads back as the first boxes and words) and `written-again` (an accepted tape writes again as the same bytes).
+-- The round trip, both ways. In any edition: `read-tape` (a head and steps, once written, read back) and `tape-again` (an accepted tape
+-- is what its head and steps are written as). Of a tape as the calls take it: `read-written` and `written-again`.
 use mathlib.Core.Path.{_≡_, refl, sym, ap, ap₂, subst, _∙_}
 use mathlib.Core.Logic.{_≢_}
 use Prim.Native.Nat.{ℕ, zero, suc, _+_, _-_, _*_, _%_, _^_, _≤_, _<_}
@@ -7,28 +7,28 @@ use mathlib.Core.List.{List, [], _∷_, _++_, append-assoc}
 use mathlib.Core.Bool.{Bool, true, false, cond}
 use native.Mathlib.Omega.{arith}
 use lib.ListN.{length, take, drop, length-append, length-drop, replicate, length-replicate, take-append-drop}
-use lib.Seq.{length-take-le, take-at, drop-at, drop-drop}
+use lib.Seq.{length-take-le, take-at, take-all, drop-at, drop-append-le, drop-drop}
 use lib.Dec.{eqb, ltb}
 use borrow.Author.Tests.{eqb-false, lt-ltb, ltb-false}
-use Rattle.tape.specs.Bits.{num, bits, bitsOf}
-use Rattle.tape.specs.Layout.{mark}
-use Rattle.tape.specs.Reading.{readAt, given, refused, more, onward, readFrom, readSteps, firstBoxes, readTape}
-use Rattle.tape.specs.Writing.{wide, stepBits, allSteps, body, pad, stepsPart, size, tapeOf, writeTape}
+use Rattle.tape.specs.Bits.{num, bits, bitsOf, Bytes}
+use Rattle.tape.specs.Edition.{Edition, firstEdition}
+use Rattle.tape.specs.Reading.{readAt, given, refused, more, onward, readFrom, start, readSteps, boxesIn, firstBoxes, readIn, readTape}
+use Rattle.tape.specs.Writing.{wide, stepBits, allSteps, body, pad, ending, stepsPart, size, tapeWith, tapeOf, writeTape}
 use Rattle.tape.specs.declared.reading.Reading.{Reading}
 use Rattle.tape.specs.declared.reading.Reading.the-variants.{Step, Refused, End}
-use Rattle.tape.proofs.BitLaws.{length-bits, num-inj, num-bits-small, num-zeros, bits-part}
-use Rattle.tape.proofs.ByteLaws.{Bytes, length-bitsOf, drop-bitsOf, bitsOf-pack, bitsOf-inj, bytes-pack}
+use Rattle.tape.proofs.BitLaws.{length-bits, num-inj, num-bits-small, num-zeros, bits-part, cut-append}
+use Rattle.tape.proofs.ByteLaws.{length-bitsOf, drop-bitsOf, bitsOf-pack, bitsOf-inj, bytes-pack}
 use Rattle.tape.proofs.LayoutLaws.{width-least}
 use Rattle.tape.proofs.ReadingLaws.{begins-yes, read-mark, end-good, more-is}
 use Rattle.tape.proofs.StepLaws.{StepIn, EndIn, step-in, end-in, read-step, word-of, step-word, wide-word, length-step}
-use Rattle.tape.proofs.WritingLaws.{all-cons, pad-lt, size-bits, size-least, length-tapeOf, tape-bits, write-good}
-use Rattle.tape.proofs.TapeLaws.{GoodHead, head-good, head-zero, head-given, read-good}
+use Rattle.tape.proofs.WritingLaws.{all-cons, pad-lt, size-bits, size-least, length-tape, tape-bits, write-good}
+use Rattle.tape.proofs.TapeLaws.{GoodHead, head-good, head-zero, head-there, head-given, read-good}
 
-module _ (ed : ℕ) where
+module _ (ed : Edition) where
   -- the end mark, with zeros to the edge
-  read-end : (pre : List Bool) (z : ℕ) → z < 8 → readAt ed (pre ++ (mark ed ++ replicate z false)) (length pre) ≡ End
+  read-end : (pre : List Bool) (z : ℕ) → z < 8 → readAt ed (pre ++ (ed .mark ++ replicate z false)) (length pre) ≡ End
   read-end pre z h =
-      let m = mark ed in
+      let m = ed .mark in
       let t = pre ++ (m ++ replicate z false) in
       let p = length pre in
       let d : drop p t ≡ m ++ replicate z false = drop-at pre (m ++ replicate z false) p refl in
@@ -41,15 +41,15 @@ module _ (ed : ℕ) where
 
   -- reading from where the steps begin
   read-body : (pre : List Bool) (xs : List ℕ) (z f : ℕ) → z < 8 → allSteps ed xs ≡ true → length xs < f
-      → readFrom ed f (pre ++ (body ed xs ++ (mark ed ++ replicate z false))) (length pre) ≡ given xs
+      → readFrom ed f (pre ++ (body ed xs ++ (ed .mark ++ replicate z false))) (length pre) ≡ given xs
   unfolding readFrom body
   read-body pre xs z zero h a l = absurd (omega arith)
-  read-body pre [] z (suc f) h a l = ap (λ r. onward r (readFrom ed f (pre ++ (mark ed ++ replicate z false)))) (read-end pre z h)
+  read-body pre [] z (suc f) h a l = ap (λ r. onward r (readFrom ed f (pre ++ (ed .mark ++ replicate z false)))) (read-end pre z h)
   read-body pre (x ∷ xs) z (suc f) h a l =
       let c = all-cons ed x xs a in
       let w = word-of ed x (c .0) in
       let s = stepBits ed x in
-      let end = mark ed ++ replicate z false in
+      let end = ed .mark ++ replicate z false in
       let e : pre ++ ((s ++ body ed xs) ++ end) ≡ pre ++ (s ++ (body ed xs ++ end)) = ap (λ u. pre ++ u) (append-assoc s (body ed xs) end) in
       let g : pre ++ (s ++ (body ed xs ++ end)) ≡ (pre ++ s) ++ (body ed xs ++ end) = sym (append-assoc pre s (body ed xs ++ end)) in
       ap (λ t. onward (readAt ed t (length pre)) (readFrom ed f t)) e
@@ -64,21 +64,22 @@ module _ (ed : ℕ) where
       let c = all-cons ed x xs a in
       omega (arith, body-longer xs (c .1), length-append (stepBits ed x) (body ed xs), length-step ed x, c .0)
 
-  -- steps that are written read back as the same words
-  pub read-part : (xs : List ℕ) → allSteps ed xs ≡ true → readSteps ed (stepsPart ed xs) ≡ given xs
-  unfolding readSteps stepsPart
-  read-part xs a =
-      let z = pad (length (body ed xs) + length (mark ed)) in
-      let end = mark ed ++ replicate z false in
-      read-body [] xs z (suc (length (body ed xs ++ end))) (pad-lt ed (length (body ed xs) + length (mark ed))) a
-      (omega (arith, body-longer xs a, length-append (body ed xs) end))
+  -- steps that are written behind a head read back as the same words
+  pub read-part : (pre : List Bool) (xs : List ℕ) → length pre ≡ start ed → allSteps ed xs ≡ true → readSteps ed (pre ++ stepsPart ed xs) ≡ given xs
+  unfolding readSteps stepsPart ending
+  read-part pre xs e a =
+      let z = pad (start ed + length (body ed xs) + length (ed .mark)) in
+      let end = ed .mark ++ replicate z false in
+      ap (readFrom ed (suc (length (pre ++ (body ed xs ++ end)))) (pre ++ (body ed xs ++ end))) (sym e)
+      ∙ read-body pre xs z (suc (length (pre ++ (body ed xs ++ end)))) (pad-lt ed (start ed + length (body ed xs) + length (ed .mark))) a
+      (omega (arith, body-longer xs a, length-append (body ed xs) end, length-append pre (body ed xs ++ end)))
 
   -- what bits that read as steps hold from a position on
   record Holds (t : List Bool) (p : ℕ) (xs : List ℕ) : Type 0 where
     z : ℕ
     edge : z < 8
     all : allSteps ed xs ≡ true
-    is : drop p t ≡ body ed xs ++ (mark ed ++ replicate z false)
+    is : drop p t ≡ body ed xs ++ (ed .mark ++ replicate z false)
 
   zeros-are : (l : List Bool) → num l ≡ 0 → l ≡ replicate (length l) false
   zeros-are l h = num-inj l (replicate (length l) false) (sym (length-replicate (length l) false)) (h ∙ sym (num-zeros (length l)))
@@ -86,13 +87,13 @@ module _ (ed : ℕ) where
   ends : (t : List Bool) (p : ℕ) → EndIn ed t p → Holds t p []
   unfolding body allSteps
   ends t p e =
-      let m = length (mark ed) in
+      let m = length (ed .mark) in
       record {
         z = length (drop (p + m) t);
         edge = rw length-drop (omega (arith, e .edge, e .has, length-drop p t));
         all = refl;
         is = sym (take-append-drop m (drop p t)) ∙ ap₂ (λ a b. a ++ b)
-            (num-inj (take m (drop p t)) (mark ed) (length-take-le m (drop p t) (e .has)) (e .marked))
+            (num-inj (take m (drop p t)) (ed .mark) (length-take-le m (drop p t) (e .has)) (e .marked))
             (drop-drop m p t ∙ zeros-are (drop (p + m) t) (e .zeros));
       }
 
@@ -106,7 +107,7 @@ module _ (ed : ℕ) where
         z = h .z;
         edge = h .edge;
         all = simp (lt-ltb _ _ n) (h .all);
-        is = s .here ∙ ap₂ (λ a b. a ++ b) (sym u) (h .is) ∙ sym (append-assoc (stepBits ed y) (body ed xs) (mark ed ++ replicate (h .z) false));
+        is = s .here ∙ ap₂ (λ a b. a ++ b) (sym u) (h .is) ∙ sym (append-assoc (stepBits ed y) (body ed xs) (ed .mark ++ replicate (h .z) false));
       }
 
   holds : (f : ℕ) (t : List Bool) (p : ℕ) (xs : List ℕ) → readFrom ed f t p ≡ given xs → Holds t p xs
@@ -121,63 +122,91 @@ module _ (ed : ℕ) where
       go (Refused k) r e ih = let q : _≡_ {A = ℕ} 0 1 = cc in absurd (omega arith)
       go End r e ih = let q : [] ≡ xs = cc in subst (Holds t p) q (ends t p (end-in ed t p r))
 
-  -- whole bytes that read as steps are what these steps are written as
-  pub part-again : (t : List Bool) (m : ℕ) (xs : List ℕ) → length t ≡ 8 * m → readSteps ed t ≡ given xs → (allSteps ed xs ≡ true) × (t ≡ stepsPart ed xs)
-  unfolding readSteps stepsPart pad
-  part-again t m xs k e =
-      let h = holds (suc (length t)) t 0 xs e in
+  -- whole bytes that read as steps hold behind the head what these steps are written as
+  pub part-again : (t : List Bool) (m : ℕ) (xs : List ℕ) → length t ≡ 8 * m → start ed ≤ length t → readSteps ed t ≡ given xs → (allSteps ed xs ≡ true) × (drop (start ed) t ≡ stepsPart ed xs)
+  unfolding readSteps stepsPart ending pad
+  part-again t m xs k l e =
+      let h = holds (suc (length t)) t (start ed) xs e in
       let b = length (body ed xs) in
-      let n : length t ≡ b + (length (mark ed) + h .z) = ap length (h .is) ∙ length-append (body ed xs) (mark ed ++ replicate (h .z) false)
-      ∙ ap (λ a. b + a) (length-append (mark ed) (replicate (h .z) false) ∙ ap (λ a. length (mark ed) + a) (length-replicate (h .z) false)) in
-      let z : h .z ≡ (8 - (b + length (mark ed)) % 8) % 8 = omega (arith, h .edge) in
-      (h .all, h .is ∙ ap (λ a. body ed xs ++ (mark ed ++ replicate a false)) z)
+      let n : length (drop (start ed) t) ≡ b + (length (ed .mark) + h .z) = ap length (h .is) ∙ length-append (body ed xs) (ed .mark ++ replicate (h .z) false)
+      ∙ ap (λ a. b + a) (length-append (ed .mark) (replicate (h .z) false) ∙ ap (λ a. length (ed .mark) + a) (length-replicate (h .z) false)) in
+      let z : h .z ≡ (8 - (start ed + b + length (ed .mark)) % 8) % 8 = omega (arith, h .edge, length-drop (start ed) t) in
+      (h .all, h .is ∙ ap (λ a. body ed xs ++ (ed .mark ++ replicate a false)) z)
 
-module _ (first : ℕ) (xs : List ℕ) where
-  bits-tapeOf : bitsOf (tapeOf first xs) ≡ bits 16 first ++ stepsPart 1 xs
-  unfolding tapeOf
-  bits-tapeOf = bitsOf-pack (2 + size 1 xs) (bits 16 first ++ stepsPart 1 xs) (tape-bits first xs)
+-- a tape with a head of its edition's length
+module _ (ed : Edition) (head : List Bool) (xs : List ℕ) (long : length head ≡ ed .head) where
+  bits-tape : bitsOf (tapeWith ed head xs) ≡ head ++ stepsPart ed xs
+  unfolding tapeWith
+  bits-tape = bitsOf-pack (2 + size ed xs) (head ++ stepsPart ed xs) (tape-bits ed head xs long)
 
-  bytes-tapeOf : Bytes (tapeOf first xs)
-  unfolding tapeOf
-  bytes-tapeOf = bytes-pack (2 + size 1 xs) (bits 16 first ++ stepsPart 1 xs)
+  bytes-tape : Bytes (tapeWith ed head xs)
+  unfolding tapeWith
+  bytes-tape = bytes-pack (2 + size ed xs) (head ++ stepsPart ed xs)
 
-  first-tapeOf : first < 2 ^ 16 → firstBoxes (tapeOf first xs) ≡ first
-  unfolding firstBoxes
-  first-tapeOf h = ap (λ z. num (take 16 z)) bits-tapeOf ∙ ap num (take-at (bits 16 first) (stepsPart 1 xs) 16 (length-bits 16 first)) ∙ num-bits-small 16 first h
+  boxes-tape : boxesIn ed (tapeWith ed head xs) ≡ num (take 16 (drop (ed .boxes-at) head))
+  unfolding boxesIn
+  boxes-tape = ap (λ z. num (take 16 (drop (ed .boxes-at) z))) bits-tape ∙ ap num (cut-append head (stepsPart ed xs) (ed .boxes-at) 16 (omega (arith, ed .boxes-inside)))
 
-  part-tapeOf : bitsOf (drop 2 (tapeOf first xs)) ≡ stepsPart 1 xs
-  part-tapeOf = sym (drop-bitsOf 2 (tapeOf first xs)) ∙ ap (drop 16) bits-tapeOf ∙ drop-at (bits 16 first) (stepsPart 1 xs) 16 (length-bits 16 first)
+  part-tape : bitsOf (drop 2 (tapeWith ed head xs)) ≡ drop 16 head ++ stepsPart ed xs
+  part-tape = sym (drop-bitsOf 2 (tapeWith ed head xs)) ∙ ap (drop 16) bits-tape ∙ drop-append-le 16 head (stepsPart ed xs) (omega (arith, ed .boxes-inside))
 
-  read-tapeOf : first ≢ 0 → first < 2 ^ 16 → allSteps 1 xs ≡ true → 2 + size 1 xs ≤ 4096 → readTape (tapeOf first xs) ≡ given xs
-  read-tapeOf n h a l =
-      let g : GoodHead (tapeOf first xs) = record { least = rw length-tapeOf (omega (arith, size-least 1 xs)); most = rw length-tapeOf l; some = λ e. n (sym (first-tapeOf h) ∙ e) } in
-      read-good (tapeOf first xs) (head-zero (tapeOf first xs) g) ∙ ap (readSteps 1) part-tapeOf ∙ read-part 1 xs a
+  -- what is written in any edition reads back
+  pub read-tape : num (take 16 (drop (ed .boxes-at) head)) ≢ 0 → allSteps ed xs ≡ true → 2 + size ed xs ≤ 4096 → readIn ed (tapeWith ed head xs) ≡ given xs
+  read-tape n a l =
+      let t = tapeWith ed head xs in
+      let g : GoodHead ed t = record { least = rw length-tape (size-least ed xs); most = rw length-tape l; some = λ e. n (sym boxes-tape ∙ e) } in
+      read-good ed t (head-zero ed t g) ∙ ap (readSteps ed) part-tape
+      ∙ read-part ed (drop 16 head) xs (length-drop 16 head ∙ ap (λ k. k - 16) long) a
+
+-- the words of an accepted tape of any edition are steps, and stand in it behind the head
+pub accepted-part : (ed : Edition) (s xs : List ℕ) → readIn ed s ≡ given xs → (allSteps ed xs ≡ true) × (drop (start ed) (bitsOf (drop 2 s)) ≡ stepsPart ed xs)
+accepted-part ed s xs e =
+    let h = head-given ed s xs e in
+    let t = bitsOf (drop 2 s) in
+    let n : length t ≡ 8 * (length s - 2) = length-bitsOf (drop 2 s) ∙ ap (λ k. 8 * k) (length-drop 2 s) in
+    part-again ed t (length s - 2) xs n (omega (arith, head-there ed s (head-good ed s h) .2)) (sym (read-good ed s h) ∙ e)
+
+-- the whole of it is what its head and steps are written as
+pub tape-again : (ed : Edition) (s xs : List ℕ) → Bytes s → readIn ed s ≡ given xs → (2 + size ed xs ≡ length s) × (s ≡ tapeWith ed (take (ed .head) (bitsOf s)) xs)
+tape-again ed s xs b e =
+    let there = head-there ed s (head-good ed s (head-given ed s xs e)) in
+    let head = take (ed .head) (bitsOf s) in
+    let long : length head ≡ ed .head = length-take-le (ed .head) (bitsOf s) (rw length-bitsOf (there .1)) in
+    let p = accepted-part ed s xs e .1 in
+    let w : 16 + start ed ≡ ed .head = omega (arith, ed .boxes-inside) in
+    let r : drop (ed .head) (bitsOf s) ≡ stepsPart ed xs =
+    ap (λ k. drop k (bitsOf s)) (sym w) ∙ sym (drop-drop (start ed) 16 (bitsOf s)) ∙ ap (drop (start ed)) (drop-bitsOf 2 s) ∙ p in
+    let bs : bitsOf s ≡ head ++ stepsPart ed xs = sym (take-append-drop (ed .head) (bitsOf s)) ∙ ap (λ z. head ++ z) r in
+    let m : 2 + size ed xs ≡ length s = omega (arith, tape-bits ed head xs long, ap length bs, length-bitsOf s) in
+    (m, bitsOf-inj s (tapeWith ed head xs) (sym (length-tape ed head xs ∙ m)) b (bytes-tape ed head xs long) (bs ∙ sym (bits-tape ed head xs long)))
+
+-- the first edition's head is its first boxes
+first-boxes : (first : ℕ) → first < 2 ^ 16 → num (take 16 (bits 16 first)) ≡ first
+first-boxes first h = ap num (take-all 16 (bits 16 first) (rw length-bits (omega arith))) ∙ num-bits-small 16 first h
 
 -- what was written reads back
 pub read-written : (first : ℕ) (xs tape : List ℕ) → first < 2 ^ 16 → writeTape first xs ≡ given tape → (readTape tape ≡ given xs) × (firstBoxes tape ≡ first)
 unfolding writeTape
-read-written first xs tape h w = go (eqb first 0) refl (allSteps 1 xs) refl (ltb 4096 (2 + size 1 xs)) refl w
+read-written first xs tape h w = go (eqb first 0) refl (allSteps firstEdition xs) refl (ltb 4096 (2 + size firstEdition xs)) refl w
   where
-    go : (x : Bool) → eqb first 0 ≡ x → (y : Bool) → allSteps 1 xs ≡ y → (z : Bool) → ltb 4096 (2 + size 1 xs) ≡ z
+    go : (x : Bool) → eqb first 0 ≡ x → (y : Bool) → allSteps firstEdition xs ≡ y → (z : Bool) → ltb 4096 (2 + size firstEdition xs) ≡ z
         → cond x (refused 12) (cond y (cond z (refused 11) (given (tapeOf first xs))) (refused 14)) ≡ given tape → (readTape tape ≡ given xs) × (firstBoxes tape ≡ first)
     go true e y f z g w = let q : _≡_ {A = ℕ} 0 1 = cc in absurd (omega arith)
     go false e false f z g w = let q : _≡_ {A = ℕ} 0 1 = cc in absurd (omega arith)
     go false e true f true g w = let q : _≡_ {A = ℕ} 0 1 = cc in absurd (omega arith)
     go false e true f false g w =
         let q : tapeOf first xs ≡ tape = cc in
-        (ap readTape (sym q) ∙ read-tapeOf first xs (eqb-false first 0 e) h f (ltb-false 4096 (2 + size 1 xs) g), ap firstBoxes (sym q) ∙ first-tapeOf first xs h)
+        let b = first-boxes first h in (
+          ap readTape (sym q) ∙ read-tape firstEdition (bits 16 first) xs (length-bits 16 first) (λ z. eqb-false first 0 e (sym b ∙ z)) f (ltb-false 4096 (2 + size firstEdition xs) g),
+          ap firstBoxes (sym q) ∙ boxes-tape firstEdition (bits 16 first) xs (length-bits 16 first) ∙ b,
+        )
 
 -- an accepted tape writes again as the same bytes
 pub written-again : (tape xs : List ℕ) → Bytes tape → readTape tape ≡ given xs → writeTape (firstBoxes tape) xs ≡ given tape
-unfolding firstBoxes
+unfolding boxesIn
 written-again s xs b e =
-    let h = head-given s xs e in
-    let g = head-good s h in
-    let t = bitsOf (drop 2 s) in
-    let n : length t ≡ 8 * (length s - 2) = length-bitsOf (drop 2 s) ∙ ap (λ k. 8 * k) (length-drop 2 s) in
-    let p = part-again 1 t (length s - 2) xs n (sym (read-good s h) ∙ e) in
-    let m : 2 + size 1 xs ≡ length s = omega (arith, size-bits 1 xs, ap length (p .1), n, g .least) in
+    let g = head-good firstEdition s (head-given firstEdition s xs e) in
+    let again = tape-again firstEdition s xs b e in
     let f : take 16 (bitsOf s) ≡ bits 16 (firstBoxes s) = sym (bits-part 16 (take 16 (bitsOf s)) (length-take-le 16 (bitsOf s) (rw length-bitsOf (omega (arith, g .least))))) in
-    let bs : bitsOf s ≡ bits 16 (firstBoxes s) ++ stepsPart 1 xs = sym (take-append-drop 16 (bitsOf s)) ∙ ap₂ (λ x y. x ++ y) f (drop-bitsOf 2 s ∙ p .1) in
-    write-good (firstBoxes s) xs (g .some) (p .0) (omega (arith, m, g .most))
-    ∙ ap given (bitsOf-inj (tapeOf (firstBoxes s) xs) s (length-tapeOf (firstBoxes s) xs ∙ m) (bytes-tapeOf (firstBoxes s) xs) b (bits-tapeOf (firstBoxes s) xs ∙ sym bs))
+    write-good (firstBoxes s) xs (g .some) (accepted-part firstEdition s xs e .0) (omega (arith, again .0, g .most))
+    ∙ ap given (ap (λ h. tapeWith firstEdition h xs) (sym f) ∙ sym (again .1))

@@ -11,20 +11,21 @@ use lib.Seq.{length-take-le, take-at, drop-at, take-append-le, take-take, drop-d
 use lib.Dec.{eqb, ltb}
 use borrow.Author.Tests.{eqb-true, eq-eqb, ne-eqb}
 use Rattle.tape.specs.Bits.{num, bits, word}
-use Rattle.tape.specs.Layout.{width, legal, mark}
+use Rattle.tape.specs.Edition.{Edition}
+use Rattle.tape.specs.Layout.{width, legal}
 use Rattle.tape.specs.Reading.{begins, stepAt, kindAt, endAt, readAt}
 use Rattle.tape.specs.Writing.{widthBy, wide, stepBits}
 use Rattle.tape.specs.declared.reading.Reading.{Reading}
 use Rattle.tape.specs.declared.reading.Reading.the-variants.{Step, Refused, End}
 use Rattle.tape.proofs.BitLaws.{length-bits}
 use Rattle.tape.proofs.WordLaws.{word-bits, take-word}
-use Rattle.tape.proofs.LayoutLaws.{cond-has, width-least, width-most, mark-most}
+use Rattle.tape.proofs.LayoutLaws.{cond-has, width-least, width-most}
 use Rattle.tape.proofs.ReadingLaws.{begins-append, begins-is, read-has, read-kind, kind-step, kind-none, step-good, step-bad, Moves, moves, read-mark}
 
-module _ (ed : ℕ) where
+module _ (ed : Edition) where
   -- the bits of one step
   pub record OneStep (f : List Bool) : Type 0 where
-    pub goes-on : begins (mark ed) f ≡ false
+    pub goes-on : begins (ed .mark) f ≡ false
     pub kind : width ed (num (take 3 f)) ≢ 0
     pub size : length f ≡ width ed (num (take 3 f))
     pub fine : legal ed f ≡ true
@@ -39,10 +40,10 @@ module _ (ed : ℕ) where
 
   -- the end mark, and zero bits to the byte's edge
   pub record EndIn (t : List Bool) (p : ℕ) : Type 0 where
-    pub has : length (mark ed) ≤ length (drop p t)
-    pub marked : num (take (length (mark ed)) (drop p t)) ≡ num (mark ed)
-    pub edge : length t < p + length (mark ed) + 8
-    pub zeros : num (drop (p + length (mark ed)) t) ≡ 0
+    pub has : length (ed .mark) ≤ length (drop p t)
+    pub marked : num (take (length (ed .mark)) (drop p t)) ≡ num (ed .mark)
+    pub edge : length t < p + length (ed .mark) + 8
+    pub zeros : num (drop (p + length (ed .mark)) t) ≡ 0
 
   abbrev Inside : List Bool → ℕ → Reading → Type 0
   Inside t p (Step y q) = StepIn t p y q
@@ -50,7 +51,7 @@ module _ (ed : ℕ) where
   Inside t p End = EndIn t p
 
   module _ (t : List Bool) (p : ℕ) where
-    stands : (k : ℕ) → begins (mark ed) (drop p t) ≡ false → num (take 3 (drop p t)) ≡ k → width ed k ≢ 0 → p + width ed k ≤ length t
+    stands : (k : ℕ) → begins (ed .mark) (drop p t) ≡ false → num (take 3 (drop p t)) ≡ k → width ed k ≢ 0 → p + width ed k ≤ length t
         → legal ed (take (width ed k) (drop p t)) ≡ true → StepIn t p (word (take (width ed k) (drop p t))) (p + width ed k)
     stands k b e n l g =
         let w = width ed k in
@@ -63,7 +64,7 @@ module _ (ed : ℕ) where
         record {
           f = f;
           one = record {
-            goes-on = sym (begins-append (mark ed) f r (omega (arith, mark-most ed))) ∙ ap (begins (mark ed)) (sym here) ∙ b;
+            goes-on = sym (begins-append (ed .mark) f r (omega (arith, ed .mark-most))) ∙ ap (begins (ed .mark)) (sym here) ∙ b;
             kind = subst (λ z. width ed z ≢ 0) (sym kind) n;
             size = size ∙ ap (width ed) (sym kind);
             fine = g;
@@ -76,7 +77,7 @@ module _ (ed : ℕ) where
     inside : Inside t p (readAt ed t p)
     inside =
         read-has ed t p (Inside t p) (λ _ _. tt)
-        (λ b l z. let m = begins-is (mark ed) (drop p t) b in record { has = m .0; marked = m .1; edge = l; zeros = z }) stands
+        (λ b l z. let m = begins-is (ed .mark) (drop p t) b in record { has = m .0; marked = m .1; edge = l; zeros = z }) stands
 
     pub step-in : (y q : ℕ) → readAt ed t p ≡ Step y q → StepIn t p y q
     step-in y q e = subst (Inside t p) e inside
@@ -94,7 +95,7 @@ module _ (ed : ℕ) where
       let l : length t ≡ p + (length f + length rest) = length-append pre (f ++ rest) ∙ ap (λ z. p + z) (length-append f rest) in
       let w : length f ≡ width ed k = o .size in
       let six = width-least ed k (o .kind) in
-      let b : begins (mark ed) (drop p t) ≡ false = ap (begins (mark ed)) d ∙ begins-append (mark ed) f rest (omega (arith, mark-most ed)) ∙ o .goes-on in
+      let b : begins (ed .mark) (drop p t) ≡ false = ap (begins (ed .mark)) d ∙ begins-append (ed .mark) f rest (omega (arith, ed .mark-most)) ∙ o .goes-on in
       let e3 : take 3 (drop p t) ≡ take 3 f = ap (take 3) d ∙ take-append-le 3 f rest (omega arith) in
       let ew : take (width ed k) (drop p t) ≡ f = ap (take (width ed k)) d ∙ take-at f rest (width ed k) w in
       read-kind ed t p k b (omega arith) (ap num e3) ∙ kind-step ed t p k (o .kind)
@@ -160,14 +161,14 @@ module _ (ed : ℕ) where
     f = take (width ed k) (bits 64 x)
 
     -- with the end mark it is no step
-    wide-mark : begins (mark ed) (bits 64 x) ≡ true → wide ed x ≡ 0
+    pub wide-mark : begins (ed .mark) (bits 64 x) ≡ true → wide ed x ≡ 0
     unfolding wide endAt
     wide-mark b =
         ap (λ r. widthBy r x) (read-mark ed (bits 64 x) 0 b)
-        ∙ cond-has (λ r. widthBy r x ≡ 0) (ltb (length (bits 64 x)) (0 + length (mark ed) + 8))
-        (λ _. cond-has (λ r. widthBy r x ≡ 0) (eqb (num (drop (0 + length (mark ed)) (bits 64 x))) 0) (λ _. refl) (λ _. refl)) (λ _. refl)
+        ∙ cond-has (λ r. widthBy r x ≡ 0) (ltb (length (bits 64 x)) (0 + length (ed .mark) + 8))
+        (λ _. cond-has (λ r. widthBy r x ≡ 0) (eqb (num (drop (0 + length (ed .mark)) (bits 64 x))) 0) (λ _. refl) (λ _. refl)) (λ _. refl)
 
-    module _ (b : begins (mark ed) (bits 64 x) ≡ false) where
+    module _ (b : begins (ed .mark) (bits 64 x) ≡ false) where
       at-kind : readAt ed (bits 64 x) 0 ≡ kindAt ed (bits 64 x) 0 k
       at-kind = read-kind ed (bits 64 x) 0 k b (rw length-bits (omega arith)) refl
 
@@ -203,8 +204,8 @@ module _ (ed : ℕ) where
 
   -- a word whose kind has no step is none
   pub wide-none : (x : ℕ) → width ed (num (take 3 (bits 64 x))) ≡ 0 → wide ed x ≡ 0
-  wide-none x e = go (begins (mark ed) (bits 64 x)) refl
+  wide-none x e = go (begins (ed .mark) (bits 64 x)) refl
     where
-      go : (b : Bool) → begins (mark ed) (bits 64 x) ≡ b → wide ed x ≡ 0
+      go : (b : Bool) → begins (ed .mark) (bits 64 x) ≡ b → wide ed x ≡ 0
       go true b = wide-mark x b
       go false b = wide-kind x b e

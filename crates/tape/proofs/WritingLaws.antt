@@ -1,28 +1,28 @@
 -- Laws of writing: the bits of several steps, the bytes of a tape, and the cases of writing one.
 use mathlib.Core.Path.{_≡_, refl, sym, ap, ap₂, _∙_}
 use mathlib.Core.Logic.{_≢_}
-use Prim.Native.Nat.{ℕ, suc, _+_, _-_, _*_, _/_, _^_, _≤_, _<_, min}
+use Prim.Native.Nat.{ℕ, suc, _+_, _*_, _/_, _%_, _^_, _≤_, _<_, min}
 use mathlib.Core.List.{List, [], _∷_, _++_, append-assoc}
 use mathlib.Core.Bool.{Bool, true, false, cond}
-use native.Mathlib.Nat.{mul-mod-left, mul-div-cancel}
+use native.Mathlib.Nat.{add-zero}
 use native.Mathlib.Numerals.{add-one}
 use native.Mathlib.Omega.{arith}
 use lib.ListN.{length, take, drop, getD, length-append, replicate, length-replicate, take-append-drop}
 use lib.Seq.{take-suc, split-at}
-use lib.Pow.{pow-pos}
+use lib.Pow.{shl-exact, shl-lt}
 use lib.Dec.{ltb}
 use borrow.Author.Tests.{le-ltb, lt-ltb, ltb-true, eq-eqb, ne-eqb}
-use Rattle.tape.specs.Bits.{bits, odd}
-use Rattle.tape.specs.Layout.{mark}
-use Rattle.tape.specs.Reading.{given, refused}
-use Rattle.tape.specs.Writing.{wide, stepBits, allSteps, body, pad, stepsPart, size, tapeOf, writeTape, measured}
+use Rattle.tape.specs.Bits.{num, bits}
+use Rattle.tape.specs.Edition.{Edition, firstEdition}
+use Rattle.tape.specs.Reading.{start, leastBytes, given, refused}
+use Rattle.tape.specs.Writing.{wide, stepBits, allSteps, body, pad, ending, stepsPart, bytesFor, size, tapeWith, tapeOf, writeTape, measured}
 use Rattle.tape.specs.declared.writing.Measured.the-variants.{Bits, NoStep}
-use Rattle.tape.proofs.BitLaws.{length-bits, num-bits, num-inj, num-zeros, bits-append}
+use Rattle.tape.proofs.BitLaws.{num-lt, num-append, num-zeros, bits-part}
 use Rattle.tape.proofs.ByteLaws.{append-nil, length-pack}
-use Rattle.tape.proofs.LayoutLaws.{both, mark-least}
+use Rattle.tape.proofs.LayoutLaws.{both}
 use Rattle.tape.proofs.StepLaws.{length-step}
 
-module _ (ed : ℕ) where
+module _ (ed : Edition) where
   body-append : (a b : List ℕ) → body ed (a ++ b) ≡ body ed a ++ body ed b
   unfolding body
   body-append [] b = refl
@@ -64,22 +64,40 @@ module _ (ed : ℕ) where
   pub length-part : (xs : List ℕ) (n : ℕ) → length (body ed (take n xs)) ≤ length (body ed xs)
   length-part xs n = omega (arith, ap length (ap (body ed) (sym (take-append-drop n xs)) ∙ body-append (take n xs) (drop n xs)), length-append (body ed (take n xs)) (body ed (drop n xs)))
 
-  pub length-stepsPart : (xs : List ℕ) → length (stepsPart ed xs) ≡ length (body ed xs) + (length (mark ed) + pad (length (body ed xs) + length (mark ed)))
-  unfolding stepsPart
-  length-stepsPart xs = simp (length-append, length-replicate)
-
   pub pad-lt : (n : ℕ) → pad n < 8
   unfolding pad
   pad-lt n = omega arith
 
-  -- the step part takes whole bytes
-  pub size-bits : (xs : List ℕ) → length (stepsPart ed xs) ≡ 8 * size ed xs
-  unfolding size pad
+  pub length-ending : (n : ℕ) → length (ending ed n) ≡ length (ed .mark) + pad (n + length (ed .mark))
+  unfolding ending
+  length-ending n = simp (length-append, length-replicate)
+
+  pub length-stepsPart : (xs : List ℕ) → length (stepsPart ed xs) ≡ length (body ed xs) + (length (ed .mark) + pad (start ed + length (body ed xs) + length (ed .mark)))
+  unfolding stepsPart
+  length-stepsPart xs = length-append (body ed xs) (ending ed (start ed + length (body ed xs))) ∙ ap (λ n. length (body ed xs) + n) (length-ending (start ed + length (body ed xs)))
+
+  -- with the step part a tape takes whole bytes
+  pub size-bits : (xs : List ℕ) → start ed + length (stepsPart ed xs) ≡ 8 * size ed xs
+  unfolding bytesFor pad
   size-bits xs = omega (arith, length-stepsPart xs)
 
-  pub size-least : (xs : List ℕ) → 1 ≤ size ed xs
-  unfolding size
-  size-least xs = omega (arith, mark-least ed)
+  -- it takes all that the head asks for
+  pub size-least : (xs : List ℕ) → leastBytes ed ≤ 2 + size ed xs
+  unfolding bytesFor
+  size-least xs = omega (arith, ed .mark-least, ed .boxes-inside)
+
+  -- the end mark and the zeros behind it as one field
+  pub end-field : (z : ℕ) → bits (length (ed .mark) + z) (num (ed .mark) * 2 ^ z) ≡ ed .mark ++ replicate z false
+  end-field z =
+      let m = ed .mark in
+      let n : length (m ++ replicate z false) ≡ length m + z = length-append m (replicate z false) ∙ ap (λ k. length m + k) (length-replicate z false) in
+      let v : num (m ++ replicate z false) ≡ num m * 2 ^ z =
+      num-append m (replicate z false) ∙ ap₂ (λ a b. num m * 2 ^ a + b) (length-replicate z false) (num-zeros z) ∙ add-zero (num m * 2 ^ z) in
+      ap (bits (length m + z)) (sym v) ∙ bits-part (length m + z) (m ++ replicate z false) n
+
+  -- its number as the code shifts it
+  pub end-shifted : (z : ℕ) → z < 8 → (num (ed .mark) * 2 ^ z % 2 ^ 64 ≡ num (ed .mark) * 2 ^ z) × (num (ed .mark) * 2 ^ z < 2 ^ (length (ed .mark) + z))
+  end-shifted z h = (shl-exact {a = num (ed .mark)} (length (ed .mark)) z 64 (num-lt (ed .mark)) (omega (arith, ed .mark-most)), shl-lt {a = num (ed .mark)} (length (ed .mark)) z (num-lt (ed .mark)))
 
   pub measured-good : (xs : List ℕ) (n : ℕ) → allSteps ed xs ≡ true → n ≡ min (length (body ed xs)) 40000 → Bits n ≡ measured ed xs
   unfolding measured
@@ -105,44 +123,42 @@ module _ (ed : ℕ) where
       go true e h = let z : _≡_ {A = ℕ} 0 1 = cc in absurd (omega arith)
       go false e h = e
 
--- the first edition's end mark and the zeros behind it as one field
-pub end-field : (z : ℕ) → bits (3 + z) (7 * 2 ^ z) ≡ mark 1 ++ replicate z false
-unfolding mark bits odd
-end-field z =
-    bits-append 3 z (7 * 2 ^ z)
-    ∙ ap₂ (λ a b. a ++ b) (ap (bits 3) (mul-div-cancel 7 (pow-pos z)))
-    (num-inj (bits z (7 * 2 ^ z)) (replicate z false) (length-bits z (7 * 2 ^ z) ∙ sym (length-replicate z false)) (num-bits z (7 * 2 ^ z) ∙ mul-mod-left 7 (2 ^ z) ∙ sym (num-zeros z)))
+-- a tape with a head of its edition's length
+module _ (ed : Edition) (head : List Bool) (xs : List ℕ) where
+  pub length-tape : length (tapeWith ed head xs) ≡ 2 + size ed xs
+  unfolding tapeWith
+  length-tape = length-pack (2 + size ed xs) (head ++ stepsPart ed xs)
 
-pub length-tapeOf : (first : ℕ) (xs : List ℕ) → length (tapeOf first xs) ≡ 2 + size 1 xs
-unfolding tapeOf
-length-tapeOf first xs = length-pack (2 + size 1 xs) (bits 16 first ++ stepsPart 1 xs)
-
--- the bits of a whole tape are those of its bytes
-pub tape-bits : (first : ℕ) (xs : List ℕ) → length (bits 16 first ++ stepsPart 1 xs) ≡ 8 * (2 + size 1 xs)
-tape-bits first xs = length-append (bits 16 first) (stepsPart 1 xs) ∙ ap₂ (λ a b. a + b) (length-bits 16 first) (size-bits 1 xs) ∙ omega arith
+  -- the bits of a whole tape are those of its bytes
+  pub tape-bits : length head ≡ ed .head → length (head ++ stepsPart ed xs) ≡ 8 * (2 + size ed xs)
+  tape-bits e = length-append head (stepsPart ed xs) ∙ omega (arith, e, size-bits ed xs, ed .boxes-inside)
 
 module _ (first : ℕ) (xs : List ℕ) where
+  abbrev ed : Edition
+  ed = firstEdition
+
   pub write-12 : first ≡ 0 → writeTape first xs ≡ refused 12
   unfolding writeTape
   write-12 e = simp (eq-eqb _ _ e)
 
-  pub write-14 : first ≢ 0 → allSteps 1 xs ≡ false → writeTape first xs ≡ refused 14
+  pub write-14 : first ≢ 0 → allSteps ed xs ≡ false → writeTape first xs ≡ refused 14
   unfolding writeTape
   write-14 e a = simp (ne-eqb _ _ e, a)
 
-  pub write-11 : first ≢ 0 → allSteps 1 xs ≡ true → 4096 < 2 + size 1 xs → writeTape first xs ≡ refused 11
+  pub write-11 : first ≢ 0 → allSteps ed xs ≡ true → 4096 < 2 + size ed xs → writeTape first xs ≡ refused 11
   unfolding writeTape
   write-11 e a h = simp (ne-eqb _ _ e, a, lt-ltb _ _ h)
 
-  pub write-good : first ≢ 0 → allSteps 1 xs ≡ true → 2 + size 1 xs ≤ 4096 → writeTape first xs ≡ given (tapeOf first xs)
+  pub write-good : first ≢ 0 → allSteps ed xs ≡ true → 2 + size ed xs ≤ 4096 → writeTape first xs ≡ given (tapeOf first xs)
   unfolding writeTape
   write-good e a h = simp (ne-eqb _ _ e, a, le-ltb _ _ h)
 
 -- the size by the capped number of bits
-pub size-capped : (xs : List ℕ) (n : ℕ) → n ≡ min (length (body 1 xs)) 40000 → 2 + (n + 10) / 8 ≤ 4096 → (n ≡ length (body 1 xs)) × (2 + (n + 10) / 8 ≡ 2 + size 1 xs)
-unfolding size mark
-size-capped xs n e h = omega arith
+module _ (ed : Edition) (b n : ℕ) (capped : n ≡ min b 40000) where
+  pub size-capped : 2 + bytesFor ed n ≤ 4096 → (n ≡ b) × (2 + bytesFor ed n ≡ 2 + bytesFor ed b)
+  unfolding bytesFor
+  size-capped h = let e : n ≡ b = omega arith in (e, ap (λ k. 2 + (start ed + k + length (ed .mark) + 7) / 8) e)
 
-pub size-over : (xs : List ℕ) (n : ℕ) → n ≡ min (length (body 1 xs)) 40000 → 4096 < 2 + (n + 10) / 8 → 4096 < 2 + size 1 xs
-unfolding size mark
-size-over xs n e h = omega arith
+  pub size-over : 4096 < 2 + bytesFor ed n → 4096 < 2 + bytesFor ed b
+  unfolding bytesFor
+  size-over h = omega arith

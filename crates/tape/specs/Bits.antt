@@ -1,5 +1,5 @@
 -- Numbers and bytes as lists of bits, most significant first (01, "The tape").
-use Prim.Native.Nat.{ℕ, zero, suc, _+_, _-_, _*_, _/_, _%_, _^_, _≤_}
+use Prim.Native.Nat.{ℕ, zero, suc, _+_, _-_, _*_, _/_, _%_, _^_, _≤_, _<_}
 use mathlib.Core.Path.{_≡_}
 use mathlib.Core.List.{List, [], _∷_, _++_}
 use mathlib.Core.Bool.{Bool, true, false, cond}
@@ -29,6 +29,10 @@ bits (suc w) n = odd (n / 2 ^ w) ∷ bits w n
 unfoldable pub bitsOf : List ℕ → List Bool
 bitsOf [] = []
 bitsOf (x ∷ xs) = bits 8 x ++ bitsOf xs
+
+-- every number of a list is a byte
+abbrev pub Bytes : List ℕ → Type 0
+Bytes xs = (i : ℕ) → getD xs i 0 < 256
 
 -- a field of a word of 64 bits, by its first bit and its width; 0 where it does not lie in the word
 unfoldable pub fieldAt : ℕ → ℕ → ℕ → ℕ

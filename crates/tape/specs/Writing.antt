@@ -5,8 +5,8 @@ use mathlib.Core.Bool.{Bool, true, false, cond}
 use lib.ListN.{length, take, drop, replicate}
 use lib.Dec.{ltb, eqb}
 use Rattle.tape.specs.Bits.{num, bits}
-use Rattle.tape.specs.Layout.{mark}
-use Rattle.tape.specs.Reading.{readAt, Result, given, refused}
+use Rattle.tape.specs.Edition.{Edition, firstEdition}
+use Rattle.tape.specs.Reading.{readAt, start, Result, given, refused}
 use Rattle.tape.specs.declared.reading.Reading.{Reading}
 use Rattle.tape.specs.declared.reading.Reading.the-variants.{Step, Refused, End}
 use Rattle.tape.specs.declared.writing.Measured.{Measured}
@@ -18,24 +18,24 @@ widthBy (Step y q) x = cond (eqb y x) q 0
 widthBy (Refused k) x = 0
 widthBy End x = 0
 
-unfoldable pub wide : ℕ → ℕ → ℕ
+unfoldable pub wide : Edition → ℕ → ℕ
 wide ed x = widthBy (readAt ed (bits 64 x) 0) x
 
 -- the tape bits of a step word
-unfoldable pub stepBits : ℕ → ℕ → List Bool
+unfoldable pub stepBits : Edition → ℕ → List Bool
 stepBits ed x = take (wide ed x) (bits 64 x)
 
 -- a word is a step; else it is "a step word that is none"
-abbrev pub isStep : ℕ → ℕ → Bool
+abbrev pub isStep : Edition → ℕ → Bool
 isStep ed x = ltb 0 (wide ed x)
 
 -- every word is a step
-unfoldable pub allSteps : ℕ → List ℕ → Bool
+unfoldable pub allSteps : Edition → List ℕ → Bool
 allSteps ed [] = true
 allSteps ed (x ∷ xs) = cond (isStep ed x) (allSteps ed xs) false
 
 -- the bits of all steps
-unfoldable pub body : ℕ → List ℕ → List Bool
+unfoldable pub body : Edition → List ℕ → List Bool
 body ed [] = []
 body ed (x ∷ xs) = stepBits ed x ++ body ed xs
 
@@ -43,29 +43,40 @@ body ed (x ∷ xs) = stepBits ed x ++ body ed xs
 unfoldable pub pad : ℕ → ℕ
 pad n = (8 - n % 8) % 8
 
--- the steps, the end mark, and "zero bits to the byte's edge"
-unfoldable pub stepsPart : ℕ → List ℕ → List Bool
-stepsPart ed xs = body ed xs ++ (mark ed ++ replicate (pad (length (body ed xs) + length (mark ed))) false)
+-- the end mark from bit n on, and "zero bits to the byte's edge"
+unfoldable pub ending : Edition → ℕ → List Bool
+ending ed n = ed .mark ++ replicate (pad (n + length (ed .mark))) false
+
+-- the steps and the end mark, from where the steps begin
+unfoldable pub stepsPart : Edition → List ℕ → List Bool
+stepsPart ed xs = body ed xs ++ ending ed (start ed + length (body ed xs))
 
 -- n bytes of bits
 unfoldable pub pack : ℕ → List Bool → List ℕ
 pack zero l = []
 pack (suc n) l = num (take 8 l) ∷ pack n (drop 8 l)
 
--- the bytes that steps take
-unfoldable pub size : ℕ → List ℕ → ℕ
-size ed xs = (length (body ed xs) + length (mark ed) + 7) / 8
+-- the bytes from the third on of a tape whose steps take n bits
+unfoldable pub bytesFor : Edition → ℕ → ℕ
+bytesFor ed n = (start ed + n + length (ed .mark) + 7) / 8
+
+abbrev pub size : Edition → List ℕ → ℕ
+size ed xs = bytesFor ed (length (body ed xs))
+
+-- the tape of a head and step words
+unfoldable pub tapeWith : Edition → List Bool → List ℕ → List ℕ
+tapeWith ed head xs = pack (2 + size ed xs) (head ++ stepsPart ed xs)
 
 -- the tape of first boxes and step words
-unfoldable pub tapeOf : ℕ → List ℕ → List ℕ
-tapeOf first xs = pack (2 + size 1 xs) (bits 16 first ++ stepsPart 1 xs)
+abbrev pub tapeOf : ℕ → List ℕ → List ℕ
+tapeOf first xs = tapeWith firstEdition (bits 16 first) xs
 
 -- "Writing: 12; 14; 11"; 16 is the buffer's
 unfoldable pub writeTape : ℕ → List ℕ → Result
 writeTape first xs =
     cond (eqb first 0) (refused 12)
-    (cond (allSteps 1 xs) (cond (ltb 4096 (2 + size 1 xs)) (refused 11) (given (tapeOf first xs))) (refused 14))
+    (cond (allSteps firstEdition xs) (cond (ltb 4096 (2 + size firstEdition xs)) (refused 11) (given (tapeOf first xs))) (refused 14))
 
 -- the bits of some words as steps, counted up to 40,000, which is more than a tape has
-unfoldable pub measured : ℕ → List ℕ → Measured
+unfoldable pub measured : Edition → List ℕ → Measured
 measured ed xs = cond (allSteps ed xs) (Bits (min (length (body ed xs)) 40000)) NoStep

@@ -3,10 +3,13 @@ ghost use mathlib.Core.Path.{_≡_};
 ghost use Prim.Native.Nat.{_+_, _≤_};
 ghost use lib.ListN.{take};
 ghost use Rattle.tape.specs.Bits.{num, bits};
+ghost use Rattle.tape.specs.Edition.{editionOf, firstEdition};
 ghost use Rattle.tape.specs.Layout.{fields, layoutWith, row, width, legal};
 ghost use Rattle.tape.specs.Writing.{wide};
 use crate::bits::field;
 use crate::bits::top;
+use crate::edition::Edition;
+use crate::edition::at_mark;
 
 // How many bits a step takes with its kind, 0 for no step; the bits of each of its fields, in their order;
 // and the most that its first field may hold, where the others may hold whatever fits.
@@ -34,9 +37,9 @@ fn layout_with(first: usize, second: usize, third: usize, fourth: usize, most: u
     }
 }
 
-// The layout of a kind.
-pub(crate) fn layout_of(kind: u64) -> Layout
-    ensures { λ r. ⌜ r ≡ row (fields 1 kind) ⌝ }
+// The layout of a kind in the first edition.
+fn first_layout(kind: u64) -> Layout
+    ensures { λ r. ⌜ r ≡ row (fields firstEdition kind) ⌝ }
 {
     match kind {
         // Ask: tablet, own notes, added, removed.
@@ -61,21 +64,33 @@ pub(crate) fn layout_of(kind: u64) -> Layout
     }
 }
 
-// The fields of a step word hold numbers that they may hold.
-pub(crate) fn fields_allowed(kind: u64, word: u64) -> bool
-    requires { ⌜ (kind ≡ num (take 3 (bits 64 word))) × (width 1 kind ≡ 0 → ⊥) ⌝ }
-    ensures { λ r. ⌜ r ≡ legal 1 (take (width 1 kind) (bits 64 word)) ⌝ }
+// The layout of a kind.
+pub(crate) fn layout_of(edition: Edition, kind: u64) -> Layout
+    ensures { λ r. ⌜ r ≡ row (fields (editionOf edition) kind) ⌝ }
 {
-    let l = layout_of(kind);
+    match edition {
+        Edition::First => first_layout(kind),
+    }
+}
+
+// The fields of a step word hold numbers that they may hold.
+pub(crate) fn fields_allowed(edition: Edition, kind: u64, word: u64) -> bool
+    requires { ⌜ (kind ≡ num (take 3 (bits 64 word))) × (width (editionOf edition) kind ≡ 0 → ⊥) ⌝ }
+    ensures { λ r. ⌜ r ≡ legal (editionOf edition) (take (width (editionOf edition) kind) (bits 64 word)) ⌝ }
+{
+    let l = layout_of(edition, kind);
     field(word, 3, l.first) <= l.most
 }
 
 // How many bits the step in a word takes, or 0 for a word that is none.
-pub(crate) fn step_width(word: u64) -> usize
-    ensures { λ r. ⌜ r ≡ wide 1 word ⌝ }
+pub(crate) fn step_width(edition: Edition, word: u64) -> usize
+    ensures { λ r. ⌜ r ≡ wide (editionOf edition) word ⌝ }
 {
+    if at_mark(edition, word, 64) {
+        return 0;
+    }
     let kind = field(word, 0, 3);
-    let l = layout_of(kind);
+    let l = layout_of(edition, kind);
     let w = l.width;
     if w == 0 {
         return 0;
@@ -83,5 +98,9 @@ pub(crate) fn step_width(word: u64) -> usize
     if top(word, w) != word {
         return 0;
     }
-    if fields_allowed(kind, word) { w } else { 0 }
+    if fields_allowed(edition, kind, word) {
+        w
+    } else {
+        0
+    }
 }

@@ -1,16 +1,19 @@
 // The tape of recorded steps (01, "The tape"): its check, its reader and its writer, and the fields of a step word.
 // Each call takes anything at all, and gives its result or one numbered refusal.
 ghost use mathlib.Core.Path.{_≡_};
+ghost use Rattle.tape.specs.Edition.{firstEdition};
 ghost use Rattle.tape.specs.Layout.{fieldsIn};
 ghost use Rattle.tape.specs.Writing.{isStep};
 ghost use Rattle.tape.specs.Promises.{CheckPromise, ReadPromise, WritePromise};
 
 mod bits;
+mod edition;
 mod layout;
 mod reading;
 mod writing;
 
 pub use bits::field;
+use edition::Edition;
 
 // What a tape holds: its first boxes, and how many words of the row its steps take.
 pub struct Recorded {
@@ -44,20 +47,20 @@ pub fn tape_check(tape: &[u8]) -> u8
     ensures { λ r. ⌜ CheckPromise (now (tape .entry)) r ⌝ }
 {
     // No tape has as many steps as 4,096 bytes have bits.
-    reading::check_tape(tape, 32768)
+    reading::check_tape(Edition::First, tape, 32768)
 }
 
 // A tape's steps as words in a lent row: each has its tape bits at the top, and zeros below.
 pub fn read_tape(tape: &[u8], row: &mut [u64]) -> Read
     ensures { λ r. ⌜ ReadPromise (now (tape .entry)) (now (row .entry)) r (now (row .exit)) ⌝ }
 {
-    let number = reading::check_tape(tape, row.len());
+    let number = reading::check_tape(Edition::First, tape, row.len());
     if number != 0 {
         return Read::Refused(number);
     }
-    let steps = reading::fill_row(&tape[2..], row);
+    let steps = reading::fill_row(Edition::First, &tape[2..], row);
     let recorded = Recorded {
-        first: reading::first_boxes(tape),
+        first: reading::first_boxes(Edition::First, tape),
         steps: steps,
     };
     Read::Steps(recorded)
@@ -70,11 +73,10 @@ pub fn write_tape(first: u16, words: &[u64], buf: &mut [u8]) -> Written
     if first == 0 {
         return Written::Refused(12);
     }
-    let writing::Measured::Bits(n) = writing::measure(words) else {
+    let writing::Measured::Bits(n) = writing::measure(Edition::First, words) else {
         return Written::Refused(14);
     };
-    // Two bytes, and the steps with the 3 bits of the end mark to the byte's edge.
-    let size = 2 + (n + 10) / 8;
+    let size = 2 + writing::bytes_for(Edition::First, n);
     if 4096 < size {
         return Written::Refused(11);
     }
@@ -87,17 +89,17 @@ pub fn write_tape(first: u16, words: &[u64], buf: &mut [u8]) -> Written
 
 // Whether a word is a step: its tape bits at the top, its fields in range, and zeros below.
 pub fn is_step(word: u64) -> bool
-    ensures { λ r. ⌜ r ≡ isStep 1 word ⌝ }
+    ensures { λ r. ⌜ r ≡ isStep firstEdition word ⌝ }
 {
-    0 < layout::step_width(word)
+    0 < layout::step_width(Edition::First, word)
 }
 
 // The fields of a step word, by the layout of its kind.
 pub fn fields_of(word: u64) -> Fields
-    ensures { λ r. ⌜ r ≡ fieldsIn 1 word ⌝ }
+    ensures { λ r. ⌜ r ≡ fieldsIn firstEdition word ⌝ }
 {
     let kind = bits::field(word, 0, 3);
-    let l = layout::layout_of(kind);
+    let l = layout::layout_of(Edition::First, kind);
     let second = 3 + l.first;
     let third = second + l.second;
     let fourth = third + l.third;

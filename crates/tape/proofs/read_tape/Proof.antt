@@ -7,6 +7,7 @@ use Prim.Native.Nat.{ℕ, _-_, _≤_}
 use mathlib.Core.List.{List, [], _∷_, _++_}
 use lib.ListN.{length, take, drop, length-drop}
 use Rattle.tape.specs.Bits.{bitsOf}
+use Rattle.tape.specs.Edition.{firstEdition}
 use Rattle.tape.specs.Reading.{given, wordsOf, readSteps, firstBoxes, readTape}
 use Rattle.tape.specs.Promises.{answer}
 use Rattle.tape.proofs.LayLaws.{part-from}
@@ -24,16 +25,16 @@ record Accepted (s row : List ℕ) : Type 0 where
   fits : length (wordsOf (readTape s)) ≤ length row
   least : 3 ≤ length s
   most : length s ≤ 4096
-  same : readSteps 1 (bitsOf (take (length s - 2) (drop 2 s))) ≡ readTape s
+  same : readSteps firstEdition (bitsOf (take (length s - 2) (drop 2 s))) ≡ readTape s
 
 accepted : (c : tie.Else1) → Accepted (now (c .before .before .before .before .args .tape)) (now (c .before .before .before .before .args .row))
 accepted c =
     let a = c .before .before .before .before .args in
     let s = now (a .tape) in
-    let z = number-zero (readTape s) (length (now (a .row))) (numbered-tape s) (sym (c .before .check-tape .ensures) ∙ c .if1 .left) in
-    let h = head-given s (wordsOf (readTape s)) (z .0) in
-    let g = head-good s h in
-    record { is = z .0; fits = z .1; least = g .least; most = g .most; same = part-reads s h }
+    let z = number-zero (readTape s) (length (now (a .row))) (numbered-tape firstEdition s) (sym (c .before .check-tape .ensures) ∙ c .if1 .left) in
+    let h = head-given firstEdition s (wordsOf (readTape s)) (z .0) in
+    let g = head-good firstEdition s h in
+    record { is = z .0; fits = z .1; least = g .least; most = g .most; same = part-reads firstEdition s h }
 
 check-tape-requires : tie.Need-check-tape-requires
 check-tape-requires c κs = search needs
@@ -59,7 +60,7 @@ fill-row-requires c κs =
     let e = c .before .before in
     let k = accepted e in
     let s = now (e .before .before .before .before .args .tape) in
-    (rw (part-from 2 s, length-drop) (omega (arith, k .most)), k .same ∙ k .is ∙ ap (λ o. given (wordsOf o)) (sym (k .same)), omega (arith, ap (λ o. length (wordsOf o)) (k .same), k .fits))
+    (rw (part-from 2 s, length-drop) (omega (arith, k .most)), omega arith, k .same ∙ k .is ∙ ap (λ o. given (wordsOf o)) (sym (k .same)), omega (arith, ap (λ o. length (wordsOf o)) (k .same), k .fits))
 
 first-boxes-requires : tie.Need-first-boxes-requires
 first-boxes-requires c κs = omega (arith, accepted (c .before .before .before .before .before) .least)

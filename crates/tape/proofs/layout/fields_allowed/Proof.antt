@@ -20,7 +20,7 @@ returns c =
     let b = c .before .before .before in
     ap (λ n. leb n (l .result .most)) (c .before .field .ensures)
     ∙ ap (λ (r : Layout). leb (fieldAt (b .args .word) 3 (r .first)) (r .most)) (l .ensures)
-    ∙ legal-first (b .args .word) (b .args .kind) (b .pre .0) (b .pre .1)
+    ∙ legal-first (b .args .edition) (b .args .word) (b .args .kind) (b .pre .0) (b .pre .1)
 
 pub fields-allowed-spec : {M : Type 1} → statement M
 fields-allowed-spec = tie.close (tie.spec layout-of-requires field-requires returns)

@@ -7,6 +7,7 @@ use mathlib.Core.Bool.{true}
 use lib.ListN.{length, take, getD}
 use lib.Seq.{take-all}
 use denote.Ref.{now}
+use Rattle.tape.specs.Edition.{editionOf}
 use Rattle.tape.specs.Writing.{wide, allSteps, body}
 use Rattle.tape.proofs.StepLaws.{wide-most}
 use Rattle.tape.proofs.WritingLaws.{length-next, all-next, all-bad, measured-good, measured-bad}
@@ -17,10 +18,10 @@ capped-more : (t l w v r m : ℕ) → t ≡ min l 40000 → w ≡ v → r ≡ mi
 capped-more t l w v r m a b c d = omega arith
 
 abbrev Inv-loop : tie.InvT-loop
-Inv-loop words total₀ i₀ total i = (i ≤ length words) × (allSteps 1 (take i words) ≡ true) × (total ≡ min (length (body 1 (take i words))) 40000)
+Inv-loop edition words total₀ i₀ total i = (i ≤ length words) × (allSteps (editionOf edition) (take i words) ≡ true) × (total ≡ min (length (body (editionOf edition) (take i words))) 40000)
 
 abbrev μ-loop : tie.MeasureT-loop
-μ-loop words total₀ i₀ total i = length words - i
+μ-loop edition words total₀ i₀ total i = length words - i
 
 loop-holds : tie.Need-loop-holds Inv-loop μ-loop
 unfolding allSteps body
@@ -38,13 +39,14 @@ step-width-requires c κs = tt
 returns : tie.Need-returns Inv-loop μ-loop
 returns c =
     let l = c .before .before .before .before in
+    let ed = editionOf (l .before .before .args .edition) in
     let xs = now (l .before .before .args .words) in
-    measured-bad 1 xs (all-bad 1 xs (l .loop .i) (search needs) (l .loop .inv .1) (sym (c .before .step-width .ensures) ∙ c .if1 .taken))
+    measured-bad ed xs (all-bad ed xs (l .loop .i) (search needs) (l .loop .inv .1) (sym (c .before .step-width .ensures) ∙ c .if1 .taken))
 
 add-capped : tie.Need-add-capped Inv-loop μ-loop
 add-capped c =
     let l = c .before .before .before .before in
-    omega (arith, wide-most 1 (getD (now (l .before .before .args .words)) (l .loop .i) 0), c .before .step-width .ensures, l .loop .inv .2)
+    omega (arith, wide-most (editionOf (l .before .before .args .edition)) (getD (now (l .before .before .args .words)) (l .loop .i) 0), c .before .step-width .ensures, l .loop .inv .2)
 
 capped-requires : tie.Need-capped-requires Inv-loop μ-loop
 capped-requires c κs = tt
@@ -58,19 +60,21 @@ loop-less c = omega arith
 loop-again : tie.Need-loop-again Inv-loop μ-loop
 loop-again c =
     let l = c .before .before .before .before .before in
+    let ed = editionOf (l .before .before .args .edition) in
     let xs = now (l .before .before .args .words) in
     let w = c .before .before .step-width in (
       omega arith,
-      all-next 1 xs (l .loop .i) (search needs) (l .loop .inv .1) (λ e. c .before .if1 .left (w .ensures ∙ e)),
-      capped-more (l .loop .total) (length (body 1 (take (l .loop .i) xs))) (w .result) (wide 1 (getD xs (l .loop .i) 0)) (c .capped .result) (length (body 1 (take (l .loop .i + 1) xs))) (l .loop .inv .2) (w .ensures) (c .capped .ensures) (length-next 1 xs (l .loop .i) (search needs)),
+      all-next ed xs (l .loop .i) (search needs) (l .loop .inv .1) (λ e. c .before .if1 .left (w .ensures ∙ e)),
+      capped-more (l .loop .total) (length (body ed (take (l .loop .i) xs))) (w .result) (wide ed (getD xs (l .loop .i) 0)) (c .capped .result) (length (body ed (take (l .loop .i + 1) xs))) (l .loop .inv .2) (w .ensures) (c .capped .ensures) (length-next ed xs (l .loop .i) (search needs)),
     )
 
 returns-2 : tie.Need-returns-2 Inv-loop μ-loop
 returns-2 c =
     let l = c .before .loop in
+    let ed = editionOf (c .before .before .before .args .edition) in
     let xs = now (c .before .before .before .args .words) in
     let e : take (l .i) xs ≡ xs = take-all (l .i) xs (search needs) in
-    measured-good 1 xs (l .total) (subst (λ z. allSteps 1 z ≡ true) e (l .inv .1)) (l .inv .2 ∙ ap (λ z. min (length (body 1 z)) 40000) e)
+    measured-good ed xs (l .total) (subst (λ z. allSteps ed z ≡ true) e (l .inv .1)) (l .inv .2 ∙ ap (λ z. min (length (body ed z)) 40000) e)
 
 pub measure-spec : {M : Type 1} → statement M
 measure-spec =

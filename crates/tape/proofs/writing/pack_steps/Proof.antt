@@ -2,70 +2,92 @@
 use borrow.Author.Needs.{needs}
 use native.Mathlib.Omega.{arith}
 use mathlib.Core.Path.{_≡_, refl, sym, ap, ap₂, _∙_}
-use Prim.Native.Nat.{ℕ, _+_, _-_, _*_, _%_, _^_, _≤_, _<_}
-use mathlib.Core.List.{List, _++_}
-use mathlib.Core.Bool.{false}
+use Prim.Native.Nat.{ℕ, _+_, _-_, _*_, _≤_, _<_}
+use mathlib.Core.List.{List}
 use denote.Ref.{now}
-use native.Mathlib.Nat.{zero-add}
-use lib.Pow.{shl-exact, shl-lt}
-use lib.ListN.{length, take, getD, replicate}
+use native.Mathlib.Nat.{add-zero}
+use lib.ListN.{length, take, getD}
 use lib.Seq.{take-all}
 use Rattle.tape.specs.Bits.{bits, bitsOf, overlaid}
-use Rattle.tape.specs.Layout.{mark}
-use Rattle.tape.specs.Writing.{wide, stepBits, body, pad, stepsPart}
+use Rattle.tape.specs.Edition.{Edition, editionOf}
+use Rattle.tape.specs.Reading.{start}
+use Rattle.tape.specs.Writing.{wide, stepBits, body, ending, stepsPart}
+use Rattle.tape.proofs.ByteLaws.{length-bitsOf}
 use Rattle.tape.proofs.LayLaws.{overlaid-nil, overlaid-overlaid}
 use Rattle.tape.proofs.StepLaws.{wide-most}
-use Rattle.tape.proofs.WritingLaws.{body-next, length-next, length-part, length-stepsPart, end-field}
+use Rattle.tape.proofs.WritingLaws.{body-next, length-next, length-part, length-ending, length-stepsPart}
 use Rattle.tape.proofs.writing.pack_steps.Statement.{statement}
 use Rattle.tape.proofs.writing.pack_steps.Tie as tie
 
-sum : (p w l v m : ℕ) → p ≡ l → w ≡ v → m ≡ l + v → p + w ≡ m
-sum p w l v m a b c = omega arith
+-- the first i steps of xs lie in b, laid over s, and the next bit is p
+record Packed (ed : Edition) (xs s b : List ℕ) (p i : ℕ) : Type 0 where
+  some : i ≤ length xs
+  next : p ≡ start ed + length (body ed (take i xs))
+  same : length b ≡ length s
+  laid : bitsOf b ≡ overlaid (bitsOf s) (start ed) (body ed (take i xs))
 
-room : (xs : List ℕ) (i p n : ℕ) → i < length xs → p ≡ length (body 1 (take i xs)) → length (stepsPart 1 xs) ≤ 8 * n → (wide 1 (getD xs i 0) ≤ 64) × (p + wide 1 (getD xs i 0) ≤ 8 * n) × (p ≤ length (body 1 xs))
-room xs i p n h e k = (wide-most 1 (getD xs i 0), omega (arith, length-next 1 xs i h, length-part 1 xs (i + 1), length-stepsPart 1 xs), omega (arith, length-part 1 xs i))
+module _ (ed : Edition) (xs s b : List ℕ) (p i : ℕ) (few : length (body ed xs) ≤ 40000) (room : start ed + length (stepsPart ed xs) ≤ 8 * length s) (k : Packed ed xs s b p i) where
+  -- the steps begin within the buffer
+  begun : start ed ≤ length (bitsOf s)
+  begun = rw length-bitsOf (omega arith)
 
-total : (xs : List ℕ) (i p n : ℕ) → length xs ≤ i → p ≡ length (body 1 (take i xs)) → length (stepsPart 1 xs) ≤ 8 * n → p + (3 + (8 - (p + 3) % 8) % 8) ≤ 8 * n
-unfolding pad mark
-total xs i p n h e k =
-    let f : p ≡ length (body 1 xs) = e ∙ ap (λ z. length (body 1 z)) (take-all i xs h) in
-    omega (arith, length-stepsPart 1 xs)
+  module _ (h : i < length xs) (w : ℕ) (e : w ≡ wide ed (getD xs i 0)) where
+    fits : (w ≤ 64) × (p + w ≤ 8 * length b) × (p + w ≤ 40064)
+    fits =
+        let n = length-next ed xs i h in
+        let m = length-part ed xs (i + 1) in
+        (omega (arith, wide-most ed (getD xs i 0)), omega (arith, k .next, k .same, n, m, length-stepsPart ed xs), omega (arith, k .next, n, m, ed .head-most))
 
--- 7 << z
-marked : (z : ℕ) → z < 8 → 7 * 2 ^ z % 2 ^ 64 < 2 ^ (3 + z)
-marked z h = rw (shl-exact {a = 7} 3 z 64 (omega arith) (omega arith)) (shl-lt {a = 7} 3 z (omega arith))
+    further : (b′ : List ℕ) → length b′ ≡ length b → bitsOf b′ ≡ overlaid (bitsOf b) p (take w (bits 64 (getD xs i 0))) → Packed ed xs s b′ (p + w) (i + 1)
+    unfolding stepBits
+    further b′ l f =
+        let n = length-next ed xs i h in
+        record {
+          some = omega arith;
+          next = omega (arith, k .next, e, n);
+          same = l ∙ k .same;
+          laid = f ∙ ap₂ (λ y z. overlaid y p (take z (bits 64 (getD xs i 0)))) (k .laid) e
+              ∙ ap (λ q. overlaid (overlaid (bitsOf s) (start ed) (body ed (take i xs))) q (stepBits ed (getD xs i 0))) (k .next)
+              ∙ overlaid-overlaid (bitsOf s) (start ed) (body ed (take i xs)) (stepBits ed (getD xs i 0)) begun
+              ∙ ap (overlaid (bitsOf s) (start ed)) (sym (body-next ed xs i h));
+        }
 
-further : (xs s b : List ℕ) (i p w : ℕ) → i < length xs → p ≡ length (body 1 (take i xs)) → bitsOf b ≡ overlaid (bitsOf s) 0 (body 1 (take i xs)) → w ≡ wide 1 (getD xs i 0)
-    → overlaid (bitsOf b) p (take w (bits 64 (getD xs i 0))) ≡ overlaid (bitsOf s) 0 (body 1 (take (i + 1) xs))
-unfolding stepBits
-further xs s b i p w h e f g =
-    ap₂ (λ l k. overlaid l p (take k (bits 64 (getD xs i 0)))) f g
-    ∙ ap (λ k. overlaid (overlaid (bitsOf s) 0 (body 1 (take i xs))) k (stepBits 1 (getD xs i 0))) (e ∙ sym (zero-add (length (body 1 (take i xs)))))
-    ∙ overlaid-overlaid (bitsOf s) 0 (body 1 (take i xs)) (stepBits 1 (getD xs i 0)) (omega arith)
-    ∙ ap (overlaid (bitsOf s) 0) (sym (body-next 1 xs i h))
+  module _ (h : length xs ≤ i) where
+    all-in : p ≡ start ed + length (body ed xs)
+    all-in = k .next ∙ ap (λ z. start ed + length (body ed z)) (take-all i xs h)
 
-ended : (xs s b : List ℕ) (i p : ℕ) → length xs ≤ i → p ≡ length (body 1 (take i xs)) → bitsOf b ≡ overlaid (bitsOf s) 0 (body 1 (take i xs))
-    → overlaid (bitsOf b) p (bits (3 + (8 - (p + 3) % 8) % 8) (7 * 2 ^ ((8 - (p + 3) % 8) % 8) % 2 ^ 64)) ≡ overlaid (bitsOf s) 0 (stepsPart 1 xs)
-unfolding stepsPart pad mark
-ended xs s b i p h e f =
-    let g : take i xs ≡ xs = take-all i xs h in
-    let n : p ≡ length (body 1 xs) = e ∙ ap (λ z. length (body 1 z)) g in
-    let z = (8 - (p + 3) % 8) % 8 in
-    ap₂ (λ l k. overlaid l p (bits (3 + z) k)) (f ∙ ap (λ y. overlaid (bitsOf s) 0 (body 1 y)) g) (shl-exact {a = 7} 3 z 64 (omega arith) (omega arith))
-    ∙ ap (overlaid (overlaid (bitsOf s) 0 (body 1 xs)) p) (end-field z)
-    ∙ ap (λ k. overlaid (overlaid (bitsOf s) 0 (body 1 xs)) k (mark 1 ++ replicate ((8 - (k + 3) % 8) % 8) false)) n
-    ∙ ap (λ k. overlaid (overlaid (bitsOf s) 0 (body 1 xs)) k (mark 1 ++ replicate ((8 - (length (body 1 xs) + 3) % 8) % 8) false)) (sym (zero-add (length (body 1 xs))))
-    ∙ overlaid-overlaid (bitsOf s) 0 (body 1 xs) (mark 1 ++ replicate ((8 - (length (body 1 xs) + 3) % 8) % 8) false) (omega arith)
+    end-fits : (p ≤ 65000) × (p + length (ending ed p) ≤ 8 * length b)
+    end-fits =
+        let l : length (ending ed p) ≡ length (ending ed (start ed + length (body ed xs))) = ap (λ q. length (ending ed q)) all-in in
+        (omega (arith, all-in, ed .head-most), omega (arith, all-in, l, length-ending ed (start ed + length (body ed xs)), length-stepsPart ed xs, k .same))
+
+    ended : overlaid (bitsOf b) p (ending ed p) ≡ overlaid (bitsOf s) (start ed) (stepsPart ed xs)
+    unfolding stepsPart
+    ended =
+        ap (λ y. overlaid y p (ending ed p)) (k .laid ∙ ap (λ z. overlaid (bitsOf s) (start ed) (body ed z)) (take-all i xs h))
+        ∙ ap (λ q. overlaid (overlaid (bitsOf s) (start ed) (body ed xs)) q (ending ed q)) all-in
+        ∙ overlaid-overlaid (bitsOf s) (start ed) (body ed xs) (ending ed (start ed + length (body ed xs))) begun
 
 abbrev Inv-loop : tie.InvT-loop
-Inv-loop buf₀ words p₀ i₀ buf p i = (i ≤ length words) × (p ≡ length (body 1 (take i words))) × (length buf ≡ length buf₀) × (bitsOf buf ≡ overlaid (bitsOf buf₀) 0 (body 1 (take i words)))
+Inv-loop edition buf₀ words p₀ i₀ buf p i = Packed (editionOf edition) words buf₀ buf p i
 
 abbrev μ-loop : tie.MeasureT-loop
-μ-loop buf₀ words p₀ i₀ buf p i = length words - i
+μ-loop edition buf₀ words p₀ i₀ buf p i = length words - i
+
+start-of-requires : tie.Need-start-of-requires Inv-loop μ-loop
+start-of-requires c κs = search needs
 
 loop-holds : tie.Need-loop-holds Inv-loop μ-loop
 unfolding body
-loop-holds c = (search needs, refl, refl, sym (overlaid-nil (bitsOf (now (c .before .before .args .buf))) 0))
+loop-holds c =
+    let a = c .before .before .before .args in
+    let ed = editionOf (a .edition) in
+    record {
+      some = search needs;
+      next = c .start-of .ensures ∙ sym (add-zero (start ed));
+      same = refl;
+      laid = sym (overlaid-nil (bitsOf (now (a .buf))) (start ed));
+    }
 
 mul-x : tie.Need-mul-x Inv-loop μ-loop
 mul-x c = omega arith
@@ -76,20 +98,18 @@ shared-slice-read-x c = search needs
 step-width-requires : tie.Need-step-width-requires Inv-loop μ-loop
 step-width-requires c κs = tt
 
+-- the step before which the loop stands
+one : (c : tie.After-step-width Inv-loop μ-loop) → (c .step-width .result ≤ 64) × (c .before .before .before .loop .p + c .step-width .result ≤ 8 * length (c .before .before .before .loop .buf)) × (c .before .before .before .loop .p + c .step-width .result ≤ 40064)
+one c =
+    let l = c .before .before .before in
+    let b = l .before .before .before .before in
+    fits (editionOf (b .args .edition)) (now (b .args .words)) (now (b .args .buf)) (l .loop .buf) (l .loop .p) (l .loop .i) (b .pre .0) (b .pre .1) (l .loop .inv) (search needs) (c .step-width .result) (c .step-width .ensures)
+
 put-word-requires : tie.Need-put-word-requires Inv-loop μ-loop
-put-word-requires c κs =
-    let l = c .before .before .before .before in
-    let b = l .before .before .before in
-    let e = c .before .step-width .ensures in
-    let n = room (now (b .args .words)) (l .loop .i) (l .loop .p) (length (now (b .args .buf))) (search needs) (l .loop .inv .1) (b .pre .1) in
-    let k = l .loop .inv .2 in
-    (omega (arith, e, n), omega (arith, e, n, k), omega (arith, n, b .pre .0))
+put-word-requires c κs = let f = one (c .before) in (f .0, f .1, omega (arith, f .2))
 
 add-p : tie.Need-add-p Inv-loop μ-loop
-add-p c =
-    let l = c .before .before .before .before .before .before .before in
-    let b = l .before .before .before in
-    omega (arith, c .before .before .before .before .step-width .ensures, room (now (b .args .words)) (l .loop .i) (l .loop .p) (length (now (b .args .buf))) (search needs) (l .loop .inv .1) (b .pre .1), b .pre .0)
+add-p c = omega (arith, one (c .before .before .before .before) .2)
 
 add-i : tie.Need-add-i Inv-loop μ-loop
 add-i c = search needs
@@ -99,45 +119,27 @@ loop-less c = omega arith
 
 loop-again : tie.Need-loop-again Inv-loop μ-loop
 loop-again c =
-    let l = c .before .before .before .before .before .before .before in
-    let b = l .before .before .before in
-    let xs = now (b .args .words) in
-    let w = c .before .before .before .before .step-width in (
-      omega arith,
-      sum (l .loop .p) (w .result) (length (body 1 (take (l .loop .i) xs))) (wide 1 (getD xs (l .loop .i) 0)) (length (body 1 (take (l .loop .i + 1) xs))) (l .loop .inv .1) (w .ensures) (length-next 1 xs (l .loop .i) (search needs)),
-      c .before .before .put-word .kept .0 ∙ l .loop .inv .2,
-      c .before .before .put-word .ensures ∙ further xs (now (b .args .buf)) (l .loop .buf) (l .loop .i) (l .loop .p) (w .result) (search needs) (l .loop .inv .1) (l .loop .inv .3) (w .ensures),
-    )
+    let w = c .before .before .before .before in
+    let l = w .before .before .before in
+    let b = l .before .before .before .before in
+    let q = c .before .before .put-word in
+    further (editionOf (b .args .edition)) (now (b .args .words)) (now (b .args .buf)) (l .loop .buf) (l .loop .p) (l .loop .i) (b .pre .0) (b .pre .1) (l .loop .inv) (search needs) (w .step-width .result) (w .step-width .ensures) (q .last .0) (q .kept .0) (q .ensures)
 
-add-zeros : tie.Need-add-zeros Inv-loop μ-loop
-add-zeros c =
-    let l = c .before in
-    let b = l .before .before .before in
-    omega (arith, l .loop .inv .1, length-part 1 (now (b .args .words)) (l .loop .i), b .pre .0)
-
-sub-zeros : tie.Need-sub-zeros Inv-loop μ-loop
-sub-zeros c = omega arith
-
-add-put : tie.Need-add-put Inv-loop μ-loop
-add-put c = omega arith
-
-shl-put : tie.Need-shl-put Inv-loop μ-loop
-shl-put c = omega arith
-
-put-requires : tie.Need-put-requires Inv-loop μ-loop
-put-requires c κs =
+put-end-requires : tie.Need-put-end-requires Inv-loop μ-loop
+put-end-requires c κs =
     let l = c .before .before in
-    let b = l .before .before .before in
-    (omega arith, omega arith, marked ((8 - (l .loop .p + 3) % 8) % 8) (omega arith), omega (arith, total (now (b .args .words)) (l .loop .i) (l .loop .p) (length (now (b .args .buf))) (search needs) (l .loop .inv .1) (b .pre .1), l .loop .inv .2), omega (arith, l .loop .inv .1, length-part 1 (now (b .args .words)) (l .loop .i), b .pre .0))
+    let b = l .before .before .before .before in
+    end-fits (editionOf (b .args .edition)) (now (b .args .words)) (now (b .args .buf)) (l .loop .buf) (l .loop .p) (l .loop .i) (b .pre .0) (b .pre .1) (l .loop .inv) (search needs)
 
 same-length : tie.Need-same-length Inv-loop μ-loop
-same-length c = c .before .before .put .kept .0 ∙ c .before .before .before .before .before .loop .inv .2
+same-length c = c .before .before .put-end .kept .1 .0 ∙ c .before .before .before .before .before .loop .inv .same
 
 returns : tie.Need-returns Inv-loop μ-loop
 returns c =
     let l = c .before .before .before .before .before in
-    let b = l .before .before .before in
-    c .before .before .put .ensures ∙ ended (now (b .args .words)) (now (b .args .buf)) (l .loop .buf) (l .loop .i) (l .loop .p) (search needs) (l .loop .inv .1) (l .loop .inv .3)
+    let b = l .before .before .before .before in
+    c .before .before .put-end .ensures
+    ∙ ended (editionOf (b .args .edition)) (now (b .args .words)) (now (b .args .buf)) (l .loop .buf) (l .loop .p) (l .loop .i) (b .pre .0) (b .pre .1) (l .loop .inv) (search needs)
 
 pub pack-steps-spec : {M : Type 1} → statement M
 pack-steps-spec =
@@ -145,6 +147,7 @@ pack-steps-spec =
     (tie.spec
     Inv-loop
     μ-loop
+    start-of-requires
     loop-holds
     mul-x
     shared-slice-read-x
@@ -154,10 +157,6 @@ pack-steps-spec =
     add-i
     loop-less
     loop-again
-    add-zeros
-    sub-zeros
-    add-put
-    shl-put
-    put-requires
+    put-end-requires
     same-length
     returns)
