@@ -1,4 +1,7 @@
-// States as plain values: a fresh run, and runs with one part changed.
+// States as plain values: a fresh run, and runs with one part changed. The parts of the examples' text that change a state.
+use crate::text::Part;
+use crate::text::byte;
+use crate::text::two_bytes;
 use books::Book;
 use books::Config;
 use books::Listed;
@@ -14,21 +17,49 @@ use devices::Tablet;
 use state::Run;
 use state::Slot;
 
+// The names of the parts as letters, 8 bits to a letter.
+const LISTED: u64 = 0x6c6973746564;
+
+const CHANGE: u64 = 0x6368616e6765;
+
+const DEVICE: u64 = 0x646576696365;
+
+const ROUND: u64 = 0x726f756e64;
+
+const ASKS: u64 = 0x61736b73;
+
+const REQUEST: u64 = 0x72657175657374;
+
+const ANSWER: u64 = 0x616e73776572;
+
+const COMMIT: u64 = 0x636f6d6d6974;
+
+const FREE: u64 = 0x66726565;
+
+const STOPPED: u64 = 0x73746f70706564;
+
+const KEPT: u64 = 0x6b657074;
+
 // A fresh run with first boxes 0, 1 and 2.
 pub(crate) fn fresh() -> Run {
     let started = state::start(0x7);
     started.run
 }
 
-pub(crate) fn pair(added: u16, removed: u16) -> Config {
+fn no_notes() -> Notes {
+    let none = books::no_book();
+    none.notes
+}
+
+pub(crate) fn pair(added: u64, removed: u64) -> Config {
     Config {
-        added: added,
-        removed: removed,
+        added: two_bytes(added),
+        removed: two_bytes(removed),
     }
 }
 
 // The first changes of six that all differ: change k adds box 8 + k.
-pub(crate) fn listing(mut run: Run, count: usize) -> Run {
+fn listing(mut run: Run, count: usize) -> Run {
     let changes = [
         pair(0x100, 0),
         pair(0x200, 0),
@@ -45,7 +76,7 @@ pub(crate) fn listing(mut run: Run, count: usize) -> Run {
     run
 }
 
-pub(crate) fn with_change(mut run: Run, place: usize, change: Config) -> Run {
+fn with_change(mut run: Run, place: usize, change: Config) -> Run {
     let mut listed = run.listed;
     if place < 6 {
         listed.changes[place] = change;
@@ -55,18 +86,19 @@ pub(crate) fn with_change(mut run: Run, place: usize, change: Config) -> Run {
 }
 
 // Contents as they are fresh, with a set of boxes and a set of changes.
-pub(crate) fn contents(config: Config, t: u8) -> Contents {
+fn contents(config: Config, t: u64) -> Contents {
+    let notes = no_notes();
     Contents {
         v: Book {
-            notes: Notes { set: 0 },
+            notes: notes,
             config: config,
         },
-        candidates: Notes { set: 0 },
-        t: t,
+        candidates: notes,
+        t: byte(t),
     }
 }
 
-pub(crate) fn with_contents(mut run: Run, device: usize, contents: Contents) -> Run {
+fn with_contents(mut run: Run, device: usize, contents: Contents) -> Run {
     if device < 24 {
         run.devices[device] = contents;
     }
@@ -74,37 +106,39 @@ pub(crate) fn with_contents(mut run: Run, device: usize, contents: Contents) -> 
 }
 
 // A tablet that asks, with what it saved and the boxes that answered.
-pub(crate) fn asking(config: Config, t: u8, answered: u16) -> Phase {
+fn asking(config: Config, t: u64, answered: u64) -> Phase {
+    let notes = no_notes();
     Phase::Asks(Asking {
         config: config,
-        t: t,
-        candidates: Notes { set: 0 },
-        answered: answered,
+        t: byte(t),
+        candidates: notes,
+        answered: two_bytes(answered),
         floor: Floor::Unset,
     })
 }
 
-pub(crate) fn with_tablet(mut run: Run, tablet: usize, round: u16, phase: Phase) -> Run {
+fn with_tablet(mut run: Run, tablet: usize, round: u64, phase: Phase) -> Run {
     if tablet < 8 {
         run.tablets[tablet] = Tablet {
-            round: round,
+            round: two_bytes(round),
             phase: phase,
         };
     }
     run
 }
 
-pub(crate) fn letter(from: u8, to: u8, round: u16, t: u8) -> Letter {
-    let carried = contents(pair(0x7, 0), t);
+// A request or an answer with what a fresh device has, and a set of changes.
+fn letter(part: Part) -> Letter {
+    let carried = contents(pair(0x7, 0), part.fifth);
     Letter {
-        from: from,
-        to: to,
-        round: round,
+        from: byte(part.second),
+        to: byte(part.third),
+        round: two_bytes(part.fourth),
         contents: carried,
     }
 }
 
-pub(crate) fn commit(from: u8, to: u8) -> Message {
+fn commit(from: u8, to: u8) -> Message {
     let book = books::no_book();
     Message::Commit(Notice {
         from: from,
@@ -113,7 +147,22 @@ pub(crate) fn commit(from: u8, to: u8) -> Message {
     })
 }
 
-pub(crate) fn with_message(mut run: Run, slot: usize, message: Message) -> Run {
+fn message(part: Part) -> Message {
+    let name = part.name;
+    if name == REQUEST {
+        return Message::Request(letter(part));
+    }
+    if name == ANSWER {
+        return Message::Answer(letter(part));
+    }
+    if name == COMMIT {
+        return commit(byte(part.second), byte(part.third));
+    }
+    crate::shown::say(b"NO SUCH PART ");
+    Message::Empty
+}
+
+fn with_message(mut run: Run, slot: usize, message: Message) -> Run {
     if slot < 128 {
         run.slots[slot] = Slot { message: message };
     }
@@ -121,7 +170,7 @@ pub(crate) fn with_message(mut run: Run, slot: usize, message: Message) -> Run {
 }
 
 // A run whose lowest slots are free, and all others filled.
-pub(crate) fn with_free(mut run: Run, free: usize) -> Run {
+fn with_free(mut run: Run, free: usize) -> Run {
     let message = commit(0, 0);
     let mut i = free;
     while i < 128 {
@@ -131,19 +180,55 @@ pub(crate) fn with_free(mut run: Run, free: usize) -> Run {
     run
 }
 
-pub(crate) fn with_stopped(mut run: Run, stopped: u32) -> Run {
-    run.stopped = stopped;
+fn with_stopped(mut run: Run, stopped: u64) -> Run {
+    run.stopped = (stopped % 0x100000000) as u32;
     run
 }
 
 // A run that handed back a book with this configuration.
-pub(crate) fn with_kept(mut run: Run, config: Config) -> Run {
-    let none = books::no_book();
-    let notes = none.notes;
+fn with_kept(mut run: Run, config: Config) -> Run {
+    let notes = no_notes();
     let kept = Book {
         notes: notes,
         config: config,
     };
     run.kept = kept;
     run
+}
+
+// A run with the part that is a tablet's, a message's or the run's own.
+fn with_other_part(run: Run, part: Part) -> Run {
+    let name = part.name;
+    if name == ROUND {
+        return with_tablet(run, part.first as usize, part.second, Phase::Idle);
+    }
+    if name == ASKS {
+        let phase = asking(pair(part.third, part.fourth), part.fifth, part.sixth);
+        return with_tablet(run, part.first as usize, part.second, phase);
+    }
+    if name == FREE {
+        return with_free(run, part.first as usize);
+    }
+    with_message(run, part.first as usize, message(part))
+}
+
+pub(crate) fn with_part(run: Run, part: Part) -> Run {
+    let name = part.name;
+    if name == LISTED {
+        return listing(run, part.first as usize);
+    }
+    if name == CHANGE {
+        return with_change(run, part.first as usize, pair(part.second, part.third));
+    }
+    if name == DEVICE {
+        let config = pair(part.second, part.third);
+        return with_contents(run, part.first as usize, contents(config, part.fourth));
+    }
+    if name == STOPPED {
+        return with_stopped(run, part.first);
+    }
+    if name == KEPT {
+        return with_kept(run, pair(part.first, part.second));
+    }
+    with_other_part(run, part)
 }
