@@ -48,7 +48,10 @@ fn main() {
     let mut row = [0u64; 5458];
     let read = tape::read_tape(&bytes[..n], &mut row);
     match read {
-        Read::Steps(first, count) => play(first, &row[..count]),
+        Read::Steps(recorded) => {
+            let steps = recorded.steps;
+            play(recorded.first, &row[..steps])
+        }
         Read::Refused(number) => text::write_bad(number),
     }
 }

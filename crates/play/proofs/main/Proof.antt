@@ -28,10 +28,10 @@ enum-known-read : tie.Need-enum-known-read
 enum-known-read c = search needs
 
 array-share-prefix-row : tie.Need-array-share-prefix-row
-array-share-prefix-row c = steps-inside _ _ _ _ _ _ (c .before .before .before .before .read-tape .ensures) (c .before .read .given .1)
+array-share-prefix-row c = steps-inside _ _ _ _ _ (c .before .before .before .before .read-tape .ensures) (c .before .read .given .1)
 
 slice-aggregate-play : tie.Need-slice-aggregate-play
-slice-aggregate-play c = sym (length-take-le _ _ (steps-inside _ _ _ _ _ _ (c .before .before .before .before .before .read-tape .ensures) (c .before .before .read .given .1)))
+slice-aggregate-play c = sym (length-take-le _ _ (steps-inside _ _ _ _ _ (c .before .before .before .before .before .read-tape .ensures) (c .before .before .read .given .1)))
 
 play-requires : tie.Need-play-requires
 play-requires c κs = search needs
