@@ -11,50 +11,58 @@
 //     ask TABLET ADDED REMOVED · advance TABLET · deliver SLOT · lose SLOT · repeat SLOT · stop DEVICE · unplug BOX · start BOXES
 //
 // print what comes back.
+use crate::states::Given;
 use crate::text::Part;
 use libc::STDIN_FILENO;
-use state::Run;
 
-mod same;
 mod shown;
 mod states;
+mod sums;
 mod text;
 
-// The run of an example so far, and the place in the text.
+// What an example gives so far, and the place in the text.
 struct Turn {
-    run: Run,
+    given: Given,
     at: usize,
 }
 
-fn after_part(run: Run, part: Part) -> Run {
-    if shown::show(run, part) {
-        shown::say(b"\n");
-        return run;
+fn nothing_given() -> Given {
+    let none = text::no_part();
+    [none; 8]
+}
+
+fn with_part(mut given: Given, part: Part) -> Given {
+    let place = states::place_of(part.name);
+    if place < 8 {
+        given[place] = part;
+    } else {
+        shown::show(given, part);
     }
-    states::with_part(run, part)
+    given
 }
 
 // The piece at a place: words, which begin with a digit, begin an example.
 fn after_piece(text: &[u8], turn: Turn) -> Turn {
     let at = turn.at;
     if text::byte_at(text, at) <= b'9' {
+        let none = nothing_given();
         return Turn {
-            run: states::fresh(),
+            given: none,
             at: text::say_words(text, at),
         };
     }
     let part = text::part_at(text, at);
+    let before = turn.given;
+    let given = with_part(before, part);
     Turn {
-        run: after_part(turn.run, part),
+        given: given,
         at: part.next,
     }
 }
 
 fn examples(text: &[u8]) {
-    let mut turn = Turn {
-        run: states::fresh(),
-        at: 0,
-    };
+    let none = nothing_given();
+    let mut turn = Turn { given: none, at: 0 };
     // A text has no more pieces than bytes.
     let mut pieces: usize = 0;
     while pieces < text.len() {

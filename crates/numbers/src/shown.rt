@@ -1,5 +1,7 @@
 // What a step, the start and the unplug question answer, behind the words of an example.
+use crate::states::Given;
 use crate::states::pair;
+use crate::states::state_of;
 use crate::text::Part;
 use crate::text::byte;
 use crate::text::two_bytes;
@@ -9,23 +11,6 @@ use libc::STDOUT_FILENO;
 use parlour::Unplug;
 use state::Run;
 
-// The names of the parts as letters, 8 bits to a letter.
-const ASK: u64 = 0x61736b;
-
-const ADVANCE: u64 = 0x616476616e6365;
-
-const DELIVER: u64 = 0x64656c69766572;
-
-const LOSE: u64 = 0x6c6f7365;
-
-const REPEAT: u64 = 0x726570656174;
-
-const STOP: u64 = 0x73746f70;
-
-const UNPLUG: u64 = 0x756e706c7567;
-
-const START: u64 = 0x7374617274;
-
 pub(crate) fn say(text: &[u8]) {
     io::write_all(STDOUT_FILENO, text);
 }
@@ -34,22 +19,24 @@ pub(crate) fn say_number(number: u64) {
     io::print_decimal(STDOUT_FILENO, number);
 }
 
+fn say_round(round: u16) {
+    say(b" R ");
+    say_number(round as u64);
+}
+
 // What an outcome brings besides its number.
 fn say_values(outcome: Outcome) {
     match outcome {
         Outcome::Done => (),
-        Outcome::Round(round) => {
-            say(b" R ");
-            say_number(round as u64);
-        }
+        Outcome::Round(round) => say_round(round),
         Outcome::Committed(_) => say(b" C"),
         Outcome::Adopted(_) => say(b" A"),
         Outcome::Refused(_) => (),
     }
 }
 
-fn say_state(before: Run, after: Run) {
-    if crate::same::same_run(before, after) {
+fn say_state(same: bool) {
+    if same {
         say(b", state as given");
     } else {
         say(b", STATE CHANGED");
@@ -64,8 +51,7 @@ fn show_step(run: Run, step: Step) {
     say_number(number as u64);
     say_values(outcome);
     if number != 0 {
-        let after = stepped.run;
-        say_state(run, after);
+        say_state(crate::sums::sum_of(run) == crate::sums::sum_of(stepped.run));
     }
 }
 
@@ -94,46 +80,48 @@ enum Named {
 fn step_named(part: Part) -> Named {
     let name = part.name;
     let number = byte(part.first);
-    if name == ASK {
-        let change = pair(part.second, part.third);
-        return Named::Step(Step::Ask {
-            tablet: number,
-            notes: 1,
-            pair: change,
-        });
+    match name {
+        // `ask`
+        0x61736b => {
+            let change = pair(part.second, part.third);
+            Named::Step(Step::Ask {
+                tablet: number,
+                notes: 1,
+                pair: change,
+            })
+        }
+        // `advance`
+        0x616476616e6365 => Named::Step(Step::Advance(number)),
+        // `deliver`
+        0x64656c69766572 => Named::Step(Step::Deliver(number)),
+        // `lose`
+        0x6c6f7365 => Named::Step(Step::Lose(number)),
+        // `repeat`
+        0x726570656174 => Named::Step(Step::Repeat(number)),
+        // `stop`
+        0x73746f70 => Named::Step(Step::Stop(number)),
+        _ => Named::Nothing,
     }
-    if name == ADVANCE {
-        return Named::Step(Step::Advance(number));
-    }
-    if name == DELIVER {
-        return Named::Step(Step::Deliver(number));
-    }
-    if name == LOSE {
-        return Named::Step(Step::Lose(number));
-    }
-    if name == REPEAT {
-        return Named::Step(Step::Repeat(number));
-    }
-    if name == STOP {
-        return Named::Step(Step::Stop(number));
-    }
-    Named::Nothing
 }
 
-// Shows what a part asks of a run, if it is a step, the start or the unplug question.
-pub(crate) fn show(run: Run, part: Part) -> bool {
-    let name = part.name;
-    if name == START {
-        show_start(two_bytes(part.first));
-        return true;
-    }
-    if name == UNPLUG {
-        show_unplug(run, byte(part.first));
-        return true;
-    }
+// Shows the step that a part names.
+fn show_named(given: Given, part: Part) {
     let Named::Step(step) = step_named(part) else {
-        return false;
+        say(b"NO SUCH PART");
+        return;
     };
-    show_step(run, step);
-    true
+    show_step(state_of(given), step);
+}
+
+// Shows what a part asks of a state.
+pub(crate) fn show(given: Given, part: Part) {
+    let name = part.name;
+    match name {
+        // `start`
+        0x7374617274 => show_start(two_bytes(part.first)),
+        // `unplug`
+        0x756e706c7567 => show_unplug(state_of(given), byte(part.first)),
+        _ => show_named(given, part),
+    }
+    say(b"\n");
 }

@@ -105,6 +105,19 @@ fn behind(text: &[u8], at: usize) -> usize {
     std::num::wrapping_add_usize(at, 2)
 }
 
+pub(crate) fn no_part() -> Part {
+    Part {
+        name: 0,
+        first: 0,
+        second: 0,
+        third: 0,
+        fourth: 0,
+        fifth: 0,
+        sixth: 0,
+        next: 0,
+    }
+}
+
 pub(crate) fn part_at(text: &[u8], at: usize) -> Part {
     let name = token_at(text, at, b' ');
     let first = number_at(text, name.next);

@@ -11,8 +11,8 @@ Inv-loop text turn₀ pieces₀ turn pieces = Unit {0}
 abbrev μ-loop : tie.MeasureT-loop
 μ-loop text turn₀ pieces₀ turn pieces = length text - pieces
 
-fresh-requires : tie.Need-fresh-requires Inv-loop μ-loop
-fresh-requires c κs = tt
+nothing-given-requires : tie.Need-nothing-given-requires Inv-loop μ-loop
+nothing-given-requires c κs = tt
 
 loop-holds : tie.Need-loop-holds Inv-loop μ-loop
 loop-holds c = tt
@@ -41,7 +41,7 @@ examples-spec =
     (tie.spec
     Inv-loop
     μ-loop
-    fresh-requires
+    nothing-given-requires
     loop-holds
     returns
     after-piece-requires
