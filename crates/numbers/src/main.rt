@@ -1,31 +1,81 @@
-// An example of each number that a step, the unplug question and the start give, and one just beside it that does not give it
-// (01, "Numbers a caller gets back", 1 to 10 and 12). States are built as plain values, so that numbers 1, 2 and 9 are shown too,
-// which no tape from a fresh start reaches. Each line begins with the number that it is about.
-mod limits;
-mod proper;
+// Examples of each number that a caller gets back, and beside each of them one that does not give it
+// (01, "Numbers a caller gets back"). They stand on standard input, a line each: the words, which begin with the number that the
+// line is about, and behind a colon the parts, divided by semicolons. A part is a name and its numbers:
+//
+//     listed COUNT · change PLACE ADDED REMOVED · kept ADDED REMOVED · stopped DEVICES · device DEVICE ADDED REMOVED T
+//     round TABLET ROUND · asks TABLET ROUND ADDED REMOVED T ANSWERED · free SLOTS
+//     request SLOT FROM TO ROUND T · answer SLOT FROM TO ROUND T · commit SLOT FROM TO
+//
+// change a fresh run whose first boxes are 0, 1 and 2, so that states are shown too that no tape reaches; and
+//
+//     ask TABLET ADDED REMOVED · advance TABLET · deliver SLOT · lose SLOT · repeat SLOT · stop DEVICE · unplug BOX · start BOXES
+//
+// print what comes back.
+use crate::states::Given;
+use crate::text::Part;
+use libc::STDIN_FILENO;
+
 mod shown;
 mod states;
-mod steps;
 mod sums;
+mod text;
+
+// What an example gives so far, and the place in the text.
+struct Turn {
+    given: Given,
+    at: usize,
+}
+
+fn nothing_given() -> Given {
+    let none = text::no_part();
+    [none; 8]
+}
+
+fn with_part(mut given: Given, part: Part) -> Given {
+    let place = states::place_of(part.name);
+    if place < 8 {
+        given[place] = part;
+    } else {
+        shown::show(given, part);
+    }
+    given
+}
+
+// The piece at a place: words, which begin with a digit, begin an example.
+fn after_piece(text: &[u8], turn: Turn) -> Turn {
+    let at = turn.at;
+    if text::byte_at(text, at) <= b'9' {
+        let none = nothing_given();
+        return Turn {
+            given: none,
+            at: text::say_words(text, at),
+        };
+    }
+    let part = text::part_at(text, at);
+    let before = turn.given;
+    let given = with_part(before, part);
+    Turn {
+        given: given,
+        at: part.next,
+    }
+}
+
+fn examples(text: &[u8]) {
+    let none = nothing_given();
+    let mut turn = Turn { given: none, at: 0 };
+    // A text has no more pieces than bytes.
+    let mut pieces: usize = 0;
+    while pieces < text.len() {
+        if text.len() <= turn.at {
+            return;
+        }
+        turn = after_piece(text, turn);
+        pieces += 1;
+    }
+}
 
 fn main() {
-    proper::changes();
-    proper::rounds();
-    proper::sets_named();
-    proper::requests();
-    proper::answers();
-    proper::commits();
-    proper::no_reasons();
-    steps::out_of_range();
-    steps::stopped();
-    steps::phases();
-    steps::majorities();
-    steps::empty_slots();
-    limits::changes();
-    limits::rounds();
-    limits::messages_of_a_round();
-    limits::messages_of_a_commit();
-    limits::copies();
-    limits::first_boxes();
-    limits::unplugging();
+    let mut text = io::large_buffer();
+    let n = io::read_full(STDIN_FILENO, &mut text);
+    examples(&text[..n]);
 }

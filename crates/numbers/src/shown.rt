@@ -1,70 +1,127 @@
-// A line of output for each example: what it is, and the numbers that come back.
+// What a step, the start and the unplug question answer, behind the words of an example.
+use crate::states::Given;
+use crate::states::pair;
+use crate::states::state_of;
+use crate::text::Part;
+use crate::text::byte;
+use crate::text::two_bytes;
 use devices::Outcome;
 use devices::Step;
 use libc::STDOUT_FILENO;
 use parlour::Unplug;
 use state::Run;
 
-fn say(text: &[u8]) {
+pub(crate) fn say(text: &[u8]) {
     io::write_all(STDOUT_FILENO, text);
 }
 
-fn say_number(number: u64) {
+pub(crate) fn say_number(number: u64) {
     io::print_decimal(STDOUT_FILENO, number);
+}
+
+fn say_round(round: u16) {
+    say(b" R ");
+    say_number(round as u64);
 }
 
 // What an outcome brings besides its number.
 fn say_values(outcome: Outcome) {
     match outcome {
         Outcome::Done => (),
-        Outcome::Round(round) => {
-            say(b" R ");
-            say_number(round as u64);
-        }
+        Outcome::Round(round) => say_round(round),
         Outcome::Committed(_) => say(b" C"),
         Outcome::Adopted(_) => say(b" A"),
         Outcome::Refused(_) => (),
     }
 }
 
+fn say_state(same: bool) {
+    if same {
+        say(b", state as given");
+    } else {
+        say(b", STATE CHANGED");
+    }
+}
+
 // A step of a run, and of a refused one whether it hands back the very state.
-pub(crate) fn show(what: &[u8], run: Run, step: Step) {
-    let before = crate::sums::sum_of(run);
+fn show_step(run: Run, step: Step) {
     let stepped = parlour::step(run, step);
     let outcome = stepped.outcome;
     let number = devices::number_of(outcome);
-    say(what);
-    say(b": ");
     say_number(number as u64);
     say_values(outcome);
     if number != 0 {
-        let after = crate::sums::sum_of(stepped.run);
-        if after == before {
-            say(b", state as given");
-        } else {
-            say(b", STATE CHANGED");
-        }
+        say_state(crate::sums::sum_of(run) == crate::sums::sum_of(stepped.run));
     }
-    say(b"\n");
 }
 
-pub(crate) fn show_start(what: &[u8], first: u16) {
+fn show_start(first: u16) {
     let started = state::start(first);
     let outcome = started.outcome;
-    say(what);
-    say(b": ");
     say_number(devices::number_of(outcome) as u64);
-    say(b"\n");
 }
 
-pub(crate) fn show_unplug(what: &[u8], run: Run, number: u8) {
+fn show_unplug(run: Run, number: u8) {
     let answer = parlour::may_unplug(run, number);
-    say(what);
-    say(b": ");
     match answer {
         Unplug::May => say(b"0 yes"),
         Unplug::MayNot => say(b"0 no"),
         Unplug::Unanswered(n) => say_number(n as u64),
+    }
+}
+
+// The step that a part names, if it names one.
+enum Named {
+    Step(Step),
+    Nothing,
+}
+
+// An Ask brings the tablet's lowest note.
+fn step_named(part: Part) -> Named {
+    let name = part.name;
+    let number = byte(part.first);
+    match name {
+        // `ask`
+        0x61736b => {
+            let change = pair(part.second, part.third);
+            Named::Step(Step::Ask {
+                tablet: number,
+                notes: 1,
+                pair: change,
+            })
+        }
+        // `advance`
+        0x616476616e6365 => Named::Step(Step::Advance(number)),
+        // `deliver`
+        0x64656c69766572 => Named::Step(Step::Deliver(number)),
+        // `lose`
+        0x6c6f7365 => Named::Step(Step::Lose(number)),
+        // `repeat`
+        0x726570656174 => Named::Step(Step::Repeat(number)),
+        // `stop`
+        0x73746f70 => Named::Step(Step::Stop(number)),
+        _ => Named::Nothing,
+    }
+}
+
+// Shows the step that a part names.
+fn show_named(given: Given, part: Part) {
+    let Named::Step(step) = step_named(part) else {
+        say(b"NO SUCH PART");
+        return;
+    };
+    show_step(state_of(given), step);
+}
+
+// Shows what a part asks of a state.
+pub(crate) fn show(given: Given, part: Part) {
+    let name = part.name;
+    match name {
+        // `start`
+        0x7374617274 => show_start(two_bytes(part.first)),
+        // `unplug`
+        0x756e706c7567 => show_unplug(state_of(given), byte(part.first)),
+        _ => show_named(given, part),
     }
     say(b"\n");
 }

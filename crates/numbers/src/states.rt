@@ -1,4 +1,7 @@
-// States as plain values: a fresh run, and runs with one part changed.
+// The state that the parts of an example give: a fresh run with what they name changed.
+use crate::text::Part;
+use crate::text::byte;
+use crate::text::two_bytes;
 use books::Book;
 use books::Config;
 use books::Listed;
@@ -14,136 +17,268 @@ use devices::Tablet;
 use state::Run;
 use state::Slot;
 
-// A fresh run with first boxes 0, 1 and 2.
-pub(crate) fn fresh() -> Run {
-    let started = state::start(0x7);
-    started.run
-}
+// The place of each part among those that an example gives.
+const LISTED: usize = 0;
 
-pub(crate) fn pair(added: u16, removed: u16) -> Config {
+const CHANGE: usize = 1;
+
+const KEPT: usize = 2;
+
+const STOPPED: usize = 3;
+
+const DEVICE: usize = 4;
+
+const TABLET: usize = 5;
+
+const FREE: usize = 6;
+
+const MESSAGE: usize = 7;
+
+const PARTS: usize = 8;
+
+// Names as letters, 8 bits to a letter: `asks`, `request`, `answer`.
+const ASKS: u64 = 0x61736b73;
+
+const REQUEST: u64 = 0x72657175657374;
+
+const ANSWER: u64 = 0x616e73776572;
+
+// Six changes that all differ: change k adds box 8 + k.
+const CHANGES: [Config; 6] = [
     Config {
-        added: added,
-        removed: removed,
+        added: 0x100,
+        removed: 0,
+    },
+    Config {
+        added: 0x200,
+        removed: 0,
+    },
+    Config {
+        added: 0x400,
+        removed: 0,
+    },
+    Config {
+        added: 0x800,
+        removed: 0,
+    },
+    Config {
+        added: 0x1000,
+        removed: 0,
+    },
+    Config {
+        added: 0x2000,
+        removed: 0,
+    },
+];
+
+// The parts that an example gives of its state, each at its place; one that is not given has no name.
+pub(crate) type Given = [Part; 8];
+
+// The place of the part with this name, or their number where none has it.
+pub(crate) fn place_of(name: u64) -> usize {
+    match name {
+        // `listed`
+        0x6c6973746564 => LISTED,
+        // `change`
+        0x6368616e6765 => CHANGE,
+        // `kept`
+        0x6b657074 => KEPT,
+        // `stopped`
+        0x73746f70706564 => STOPPED,
+        // `device`
+        0x646576696365 => DEVICE,
+        // `round`
+        0x726f756e64 => TABLET,
+        ASKS => TABLET,
+        // `free`
+        0x66726565 => FREE,
+        REQUEST => MESSAGE,
+        ANSWER => MESSAGE,
+        // `commit`
+        0x636f6d6d6974 => MESSAGE,
+        _ => PARTS,
     }
 }
 
-// The first changes of six that all differ: change k adds box 8 + k.
-pub(crate) fn listing(mut run: Run, count: usize) -> Run {
-    let changes = [
-        pair(0x100, 0),
-        pair(0x200, 0),
-        pair(0x400, 0),
-        pair(0x800, 0),
-        pair(0x1000, 0),
-        pair(0x2000, 0),
-    ];
-    let listed = Listed {
-        changes: changes,
-        count: count,
-    };
-    run.listed = listed;
-    run
+fn no_notes() -> Notes {
+    let none = books::no_book();
+    none.notes
 }
 
-pub(crate) fn with_change(mut run: Run, place: usize, change: Config) -> Run {
-    let mut listed = run.listed;
-    if place < 6 {
-        listed.changes[place] = change;
-    }
-    run.listed = listed;
-    run
-}
-
-// Contents as they are fresh, with a set of boxes and a set of changes.
-pub(crate) fn contents(config: Config, t: u8) -> Contents {
-    Contents {
-        v: Book {
-            notes: Notes { set: 0 },
-            config: config,
-        },
-        candidates: Notes { set: 0 },
-        t: t,
+pub(crate) fn pair(added: u64, removed: u64) -> Config {
+    Config {
+        added: two_bytes(added),
+        removed: two_bytes(removed),
     }
 }
 
-pub(crate) fn with_contents(mut run: Run, device: usize, contents: Contents) -> Run {
-    if device < 24 {
-        run.devices[device] = contents;
-    }
-    run
-}
-
-// A tablet that asks, with what it saved and the boxes that answered.
-pub(crate) fn asking(config: Config, t: u8, answered: u16) -> Phase {
-    Phase::Asks(Asking {
+// A book with no notes.
+fn book(added: u64, removed: u64) -> Book {
+    let notes = no_notes();
+    let config = pair(added, removed);
+    Book {
+        notes: notes,
         config: config,
-        t: t,
-        candidates: Notes { set: 0 },
-        answered: answered,
+    }
+}
+
+fn contents(added: u64, removed: u64, t: u64) -> Contents {
+    let v = book(added, removed);
+    let candidates = no_notes();
+    Contents {
+        v: v,
+        candidates: candidates,
+        t: byte(t),
+    }
+}
+
+// The six changes, one of which may be given otherwise.
+fn listed(given: Given) -> Listed {
+    let list = given[LISTED];
+    let change = given[CHANGE];
+    let mut changes = CHANGES;
+    if change.name != 0 {
+        changes[change.first as usize % 6] = pair(change.second, change.third);
+    }
+    Listed {
+        changes: changes,
+        count: list.first as usize,
+    }
+}
+
+// The book that a run handed back.
+fn kept(given: Given) -> Book {
+    let part = given[KEPT];
+    if part.name == 0 {
+        return book(0x7, 0);
+    }
+    book(part.first, part.second)
+}
+
+fn stopped(given: Given) -> u32 {
+    let part = given[STOPPED];
+    (part.first % 0x100000000) as u32
+}
+
+fn all_devices(given: Given) -> [Contents; 24] {
+    let part = given[DEVICE];
+    let fresh = contents(0x7, 0, 0);
+    let mut devices = [fresh; 24];
+    if part.name != 0 {
+        devices[part.first as usize % 24] = contents(part.second, part.third, part.fourth);
+    }
+    devices
+}
+
+// Idle, or asking with what it saved and the boxes that answered.
+fn phase(part: Part) -> Phase {
+    if part.name != ASKS {
+        return Phase::Idle;
+    }
+    let saved = pair(part.third, part.fourth);
+    let notes = no_notes();
+    Phase::Asks(Asking {
+        config: saved,
+        t: byte(part.fifth),
+        candidates: notes,
+        answered: two_bytes(part.sixth),
         floor: Floor::Unset,
     })
 }
 
-pub(crate) fn with_tablet(mut run: Run, tablet: usize, round: u16, phase: Phase) -> Run {
-    if tablet < 8 {
-        run.tablets[tablet] = Tablet {
-            round: round,
-            phase: phase,
-        };
+fn tablet(round: u64, phase: Phase) -> Tablet {
+    Tablet {
+        round: two_bytes(round),
+        phase: phase,
     }
-    run
 }
 
-pub(crate) fn letter(from: u8, to: u8, round: u16, t: u8) -> Letter {
-    let carried = contents(pair(0x7, 0), t);
+fn all_tablets(given: Given) -> [Tablet; 8] {
+    let part = given[TABLET];
+    let fresh = tablet(0, Phase::Idle);
+    let mut tablets = [fresh; 8];
+    tablets[part.first as usize % 8] = tablet(part.second, phase(part));
+    tablets
+}
+
+// A request or an answer with what a fresh device has, and a set of changes.
+fn letter(part: Part) -> Letter {
+    let carried = contents(0x7, 0, part.fifth);
     Letter {
-        from: from,
-        to: to,
-        round: round,
+        from: byte(part.second),
+        to: byte(part.third),
+        round: two_bytes(part.fourth),
         contents: carried,
     }
 }
 
-pub(crate) fn commit(from: u8, to: u8) -> Message {
-    let book = books::no_book();
+fn commit(from: u64, to: u64) -> Message {
+    let none = book(0, 0);
     Message::Commit(Notice {
-        from: from,
-        to: to,
-        book: book,
+        from: byte(from),
+        to: byte(to),
+        book: none,
     })
 }
 
-pub(crate) fn with_message(mut run: Run, slot: usize, message: Message) -> Run {
-    if slot < 128 {
-        run.slots[slot] = Slot { message: message };
+fn message(part: Part) -> Message {
+    let name = part.name;
+    if name == REQUEST {
+        return Message::Request(letter(part));
     }
-    run
+    if name == ANSWER {
+        return Message::Answer(letter(part));
+    }
+    commit(part.second, part.third)
 }
 
-// A run whose lowest slots are free, and all others filled.
-pub(crate) fn with_free(mut run: Run, free: usize) -> Run {
-    let message = commit(0, 0);
+// The lowest slots free, and all others filled.
+fn slots_with_free(free: usize) -> [Slot; 128] {
+    let none = Slot {
+        message: Message::Empty,
+    };
+    let filled = Slot {
+        message: commit(0, 0),
+    };
+    let mut slots = [none; 128];
     let mut i = free;
     while i < 128 {
-        run.slots[i] = Slot { message: message };
+        slots[i] = filled;
         i += 1;
     }
-    run
+    slots
 }
 
-pub(crate) fn with_stopped(mut run: Run, stopped: u32) -> Run {
-    run.stopped = stopped;
-    run
-}
-
-// A run that handed back a book with this configuration.
-pub(crate) fn with_kept(mut run: Run, config: Config) -> Run {
-    let none = books::no_book();
-    let notes = none.notes;
-    let kept = Book {
-        notes: notes,
-        config: config,
+fn all_slots(given: Given) -> [Slot; 128] {
+    let free = given[FREE];
+    let part = given[MESSAGE];
+    let lowest = if free.name == 0 {
+        128
+    } else {
+        free.first as usize
     };
+    let mut slots = slots_with_free(lowest);
+    if part.name != 0 {
+        slots[part.first as usize % 128] = Slot {
+            message: message(part),
+        };
+    }
+    slots
+}
+
+pub(crate) fn state_of(given: Given) -> Run {
+    let started = state::start(0x7);
+    let mut run = started.run;
+    let devices = all_devices(given);
+    let tablets = all_tablets(given);
+    let slots = all_slots(given);
+    let listed = listed(given);
+    let kept = kept(given);
+    run.devices = devices;
+    run.tablets = tablets;
+    run.slots = slots;
+    run.listed = listed;
     run.kept = kept;
+    run.stopped = stopped(given);
     run
 }

@@ -1,0 +1,103 @@
+// Examples of reading, in the order of its numbers: 11; 13 under three bytes; 12; 13 or 14 at the first step that has it; 15; 16.
+use crate::reads::read;
+use crate::reads::read_long;
+use crate::said::say;
+
+pub(crate) fn longest() {
+    say(b"11 read a tape over 4096 bytes, and one of 4096\n");
+    read_long(4097, 0x07, 4094);
+    read_long(4096, 0x07, 4094);
+}
+
+pub(crate) fn shortest() {
+    say(b"13 read fewer than three bytes, and three\n");
+    read(2, 0x0007, 3);
+    read(3, 0x0007e0, 3);
+}
+
+pub(crate) fn first_boxes() {
+    say(b"12 read no first box, and first box 0 or 15\n");
+    read(3, 0x0000e0, 3);
+    read(3, 0x0001e0, 3);
+    read(3, 0x8000e0, 3);
+}
+
+pub(crate) fn cut_short() {
+    say(b"13 read a Deliver of which 8 bits are there, and a whole one\n");
+    read(3, 0x000740, 3);
+    read(4, 0x00074038, 3);
+}
+
+pub(crate) fn no_end() {
+    say(
+        b"13 read a Stop with nothing behind it, an Advance with 2 bits behind it, and the same with the end mark\n",
+    );
+    read(3, 0x0007a0, 3);
+    read(3, 0x000720, 3);
+    read(4, 0x0007a0e0, 3);
+    read(4, 0x00072380, 3);
+}
+
+pub(crate) fn kind_6() {
+    say(b"14 read kind 6, and kind 5\n");
+    read(3, 0x0007c0, 3);
+    read(4, 0x0007a0e0, 3);
+}
+
+pub(crate) fn device_24() {
+    say(b"14 read device 24, device 31, and device 23\n");
+    read(4, 0x0007b8e0, 3);
+    read(4, 0x0007bfe0, 3);
+    read(4, 0x0007b7e0, 3);
+}
+
+pub(crate) fn bit_set() {
+    say(b"15 read a bit set after the end mark, the first or the last one, and none\n");
+    read(3, 0x0007f0, 3);
+    read(3, 0x0007e1, 3);
+    read(3, 0x0007e0, 3);
+}
+
+pub(crate) fn further_byte() {
+    say(b"15 read a further byte, and none\n");
+    read(4, 0x0007e000, 3);
+    read(3, 0x0007e0, 3);
+}
+
+pub(crate) fn rows() {
+    say(b"16 read two steps into a row of one place, of two and of three\n");
+    read(5, 0x0007a0a1e0, 1);
+    read(5, 0x0007a0a1e0, 2);
+    read(5, 0x0007a0a1e0, 3);
+}
+
+pub(crate) fn long_rows() {
+    say(b"16 read 4093 steps into a row of one place less, and of as many\n");
+    read_long(4096, 0x07, 4092);
+    read_long(4096, 0x07, 4093);
+}
+
+pub(crate) fn first_of_two() {
+    say(b"11 goes before 12 and 16, 13 under three bytes before 12, 12 before 13, 14 and 16\n");
+    read_long(4097, 0x00, 0);
+    read(2, 0x0000, 3);
+    read(3, 0x0000a0, 3);
+    read(3, 0x0000c0, 3);
+    read(4, 0x0000a0e0, 0);
+}
+
+pub(crate) fn first_step() {
+    say(
+        b"13 or 14 at the first step that has it: 14 then 13, 13 although its device would be over 23, and kind 6 with 4 bits\n",
+    );
+    read(3, 0x0007b8, 3);
+    read(4, 0x0007402e, 3);
+    read(5, 0x000740100c, 3);
+}
+
+pub(crate) fn last_of_two() {
+    say(b"13, 14 and 15 go before 16, 14 before 15\n");
+    read(4, 0x0007a0a0, 0);
+    read(4, 0x0007b8e1, 0);
+    read(4, 0x0007a0e1, 0);
+}
