@@ -10,6 +10,9 @@ pub struct Notes {
     pub set: u64,
 }
 
+// How many parts of 64 notes there are.
+pub const NOTE_PARTS: usize = 1;
+
 pub struct Config {
     pub added: u16,
     pub removed: u16,
@@ -48,6 +51,13 @@ pub fn own_notes(tablet: u8, own: u8) -> Notes
     Notes {
         set: (own as u64) << (8 * tablet),
     }
+}
+
+// Part k of the notes, 64 k to 64 k + 63, the lowest having weight 1; none beyond the last part.
+pub fn notes_part(notes: Notes, k: usize) -> u64
+    ensures { λ r. ⌜ r ≡ notesPart notes k ⌝ }
+{
+    if k == 0 { notes.set } else { 0 }
 }
 
 pub fn join_notes(a: Notes, b: Notes) -> Notes

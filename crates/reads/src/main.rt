@@ -6,7 +6,7 @@ use tape::Read;
 // How many steps a reading gave.
 fn steps_in(read: Read) -> u64 {
     match read {
-        Read::Steps(_, count) => count as u64,
+        Read::Steps(recorded) => recorded.steps as u64,
         Read::Refused(_) => 0,
     }
 }

@@ -11,7 +11,7 @@ use lib.Dec.{leb}
 use borrow.Author.Tests.{leb-true}
 use Rattle.tape.specs.Reading.{Result, given, refused, readTape, firstBoxes}
 use Rattle.tape.specs.Writing.{writeTape}
-use Rattle.tape.specs.Promises.{answer, answerWith, heldBy, ReadPromise, WritePromise}
+use Rattle.tape.specs.Promises.{answer, recorded, answerWith, heldBy, ReadPromise, WritePromise}
 use Rattle.tape.specs.declared.Read.{Read}
 use Rattle.tape.specs.declared.Read.the-variants.{Steps}
 use Rattle.tape.specs.declared.Written.{Written}
@@ -48,7 +48,7 @@ head-is a b v w e = cc
 -- a tape that was written reads back as its first boxes and words, into any row that is long enough
 pub written-reads : (first : ℕ) (words buf after row row′ : List ℕ) (n : ℕ) (r : Read) → first < 2 ^ 16 → length words ≤ length row
     → WritePromise first words buf (W.Bytes n) after → ReadPromise (take n after) row r row′
-    → (r ≡ Steps first (length words)) × (row′ ≡ words ++ drop (length words) row)
+    → (r ≡ Steps (recorded first (length words))) × (row′ ≡ words ++ drop (length words) row)
 written-reads first words buf after row row′ n r h l w p =
     let s = success (length buf) (λ bytes. length bytes ∷ []) (writeTape first words) n [] (w .told) in
     let t : take n after ≡ s .xs = front buf after (writeTape first words) (s .xs) n (w .buf-is) (s .is) (s .fits) (head-is n (length (s .xs)) [] [] (s .values)) in
@@ -56,12 +56,12 @@ written-reads first words buf after row row′ n r h l w p =
     let q : readTape (take n after) ≡ given words = ap readTape t ∙ b .0 in
     let f : firstBoxes (take n after) ≡ first = ap firstBoxes t ∙ b .1 in
     let k = success-kept row (λ xs. firstBoxes (take n after) ∷ length xs ∷ []) (readTape (take n after)) words q l in
-    read-settled (take n after) row r (Steps first (length words)) row′ (words ++ drop (length words) row) p
+    read-settled (take n after) row r (Steps (recorded first (length words))) row′ (words ++ drop (length words) row) p
     record { told = ap (λ z. answer 0 (z ∷ length words ∷ [])) (sym f) ∙ k .told; row-is = k .held }
 
 -- a tape that was read writes again as the same bytes, into any buffer that is long enough
 pub read-writes : (tape row after buf buf′ : List ℕ) (first n : ℕ) (r : Written) → Bytes tape → length tape ≤ length buf
-    → ReadPromise tape row (Steps first n) after → WritePromise first (take n after) buf r buf′
+    → ReadPromise tape row (Steps (recorded first n)) after → WritePromise first (take n after) buf r buf′
     → (r ≡ W.Bytes (length tape)) × (buf′ ≡ tape ++ drop (length tape) buf)
 read-writes tape row after buf buf′ first n r b l p w =
     let s = success (length row) (λ xs. firstBoxes tape ∷ length xs ∷ []) (readTape tape) first (n ∷ []) (p .told) in

@@ -11,7 +11,7 @@ use Rattle.tape.specs.Bits.{fieldAt}
 use Rattle.tape.specs.Layout.{fieldsIn}
 use Rattle.tape.specs.Reading.{Result, given, refused, readTape, firstBoxes}
 use Rattle.tape.specs.Writing.{isStep}
-use Rattle.tape.specs.Promises.{readAnswer, writtenAnswer, answerWith, number, CheckPromise, ReadPromise, WritePromise}
+use Rattle.tape.specs.Promises.{recorded, readAnswer, writtenAnswer, answerWith, number, CheckPromise, ReadPromise, WritePromise}
 use Rattle.tape.specs.declared.Read.{Read}
 use Rattle.tape.specs.declared.Read.the-variants as R
 use Rattle.tape.specs.declared.Written.{Written}
@@ -20,9 +20,12 @@ use Rattle.tape.specs.declared.Fields.{Fields}
 
 -- one answer is one case of the enum
 read-one : (r s : Read) → readAnswer r .number ≡ readAnswer s .number → readAnswer r .values ≡ readAnswer s .values → r ≡ s
-read-one (R.Steps f n) (R.Steps g m) e h = let a : f ≡ g = cc in let b : n ≡ m = cc in ap₂ R.Steps a b
-read-one (R.Steps f n) (R.Refused k) e h = let z : _≡_ {A = ℕ} 0 1 = cc in absurd (omega arith)
-read-one (R.Refused k) (R.Steps f n) e h = let z : _≡_ {A = ℕ} 0 1 = cc in absurd (omega arith)
+read-one (R.Steps x) (R.Steps y) e h =
+    let a : x .first ≡ y .first = cc in
+    let b : x .steps ≡ y .steps = cc in
+    ap₂ (λ f n. R.Steps (recorded f n)) a b
+read-one (R.Steps x) (R.Refused k) e h = let z : _≡_ {A = ℕ} 0 1 = cc in absurd (omega arith)
+read-one (R.Refused k) (R.Steps y) e h = let z : _≡_ {A = ℕ} 0 1 = cc in absurd (omega arith)
 read-one (R.Refused k) (R.Refused j) e h = ap R.Refused e
 
 written-one : (r s : Written) → writtenAnswer r .number ≡ writtenAnswer s .number → writtenAnswer r .values ≡ writtenAnswer s .values → r ≡ s

@@ -9,6 +9,7 @@ use Rattle.tape.specs.Reading.{Result, given, refused, readTape, firstBo
 use Rattle.tape.specs.Writing.{writeTape}
 use Rattle.tape.specs.declared.reading.Reading.{Reading}
 use Rattle.tape.specs.declared.reading.Reading.the-variants as G
+use Rattle.tape.specs.declared.Recorded.{Recorded}
 use Rattle.tape.specs.declared.Read.{Read}
 use Rattle.tape.specs.declared.Read.the-variants as R
 use Rattle.tape.specs.declared.Written.{Written}
@@ -22,9 +23,13 @@ pub record Answer : Type 0 where
 abbrev pub answer : ℕ → List ℕ → Answer
 answer k vs = record { number = k; values = vs }
 
+-- what a tape of some first boxes and n steps holds
+abbrev pub recorded : ℕ → ℕ → Recorded
+recorded first n = record { first = first; steps = n }
+
 -- the answer that each case of the reader's enum is: the first boxes and the number of steps
 abbrev pub readAnswer : Read → Answer
-readAnswer (R.Steps first n) = answer 0 (first ∷ n ∷ [])
+readAnswer (R.Steps it) = answer 0 (it .first ∷ it .steps ∷ [])
 readAnswer (R.Refused k) = answer k []
 
 -- the answer that each case of the writer's enum is: the tape's length

@@ -12,9 +12,15 @@ mod writing;
 
 pub use bits::field;
 
-// A tape that was read: its first boxes, and how many words of the row its steps take; or the number of the refusal.
+// What a tape holds: its first boxes, and how many words of the row its steps take.
+pub struct Recorded {
+    pub first: u16,
+    pub steps: usize,
+}
+
+// A tape that was read, or the number of the refusal.
 pub enum Read {
-    Steps(u16, usize),
+    Steps(Recorded),
     Refused(u8),
 }
 
@@ -49,8 +55,12 @@ pub fn read_tape(tape: &[u8], row: &mut [u64]) -> Read
     if number != 0 {
         return Read::Refused(number);
     }
-    let count = reading::fill_row(&tape[2..], row);
-    Read::Steps(reading::first_boxes(tape), count)
+    let steps = reading::fill_row(&tape[2..], row);
+    let recorded = Recorded {
+        first: reading::first_boxes(tape),
+        steps: steps,
+    };
+    Read::Steps(recorded)
 }
 
 // First boxes and step words as a tape in a lent buffer.

@@ -8,6 +8,7 @@ use lib.ListN.{length, drop, getD, length-append}
 use lib.Dec.{leb}
 use Rattle.tape.specs.Reading.{Result, given, refused, readTape, firstBoxes}
 use Rattle.tape.specs.Promises.{Answer, answer, readAnswer, answerWith, heldBy, ReadPromise}
+use Rattle.tape.specs.declared.Recorded.{Recorded}
 use Rattle.tape.specs.declared.Read.{Read}
 use Rattle.tape.specs.declared.Read.the-variants as R
 
@@ -24,7 +25,7 @@ module _ (boxes first n : ℕ) (row : List ℕ) where
       go false e = absurd (no-refusal first n 16 e)
   steps-held (refused k) e = absurd (no-refusal first n k e)
 
-pub steps-inside : (tape row after : List ℕ) (r : Read) (first n : ℕ) → ReadPromise tape row r after → r ≡ R.Steps first n → n ≤ length after
-steps-inside tape row after r first n p e =
-    let h = steps-held (firstBoxes tape) first n row (readTape tape) (sym (ap readAnswer e) ∙ p .told) in
+pub steps-inside : (tape row after : List ℕ) (r : Read) (it : Recorded) → ReadPromise tape row r after → r ≡ R.Steps it → it .steps ≤ length after
+steps-inside tape row after r it p e =
+    let h = steps-held (firstBoxes tape) (it .first) (it .steps) row (readTape tape) (sym (ap readAnswer e) ∙ p .told) in
     omega (arith, h, ap length (p .row-is))
