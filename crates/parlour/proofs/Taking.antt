@@ -1,6 +1,6 @@
 -- What the stores and passes of one step make of the run is what the rule's effect does to it.
 use Prim.Native.Nat.{ℕ, _+_, _^_, _≤_, _<_}
-use mathlib.Core.Bool.{Bool, true, false, true≢false}
+use mathlib.Core.Bool.{Bool, true, false}
 use mathlib.Core.List.{List}
 use mathlib.Core.Path.{_≡_, refl, ap, _∙_}
 use mathlib.Core.Logic.{_⊎_, inl, inr}
@@ -12,15 +12,15 @@ use Rattle.sets.specs.Choice.{pick, both}
 use Rattle.sets.specs.Sets.{has, union}
 use Rattle.books.specs.declared.Book.{Book}
 use Rattle.devices.specs.declared.Message.{Message}
-use Rattle.devices.specs.declared.Message.the-variants.{Empty, Request, Answer, Commit}
 use Rattle.devices.specs.declared.Here.{Here}
 use Rattle.devices.specs.declared.Effect.{Effect}
 use Rattle.devices.specs.declared.Step.{Step}
-use Rattle.devices.specs.declared.Step.the-variants.{Ask, Advance, Deliver, Lose, Repeat, Stop}
+use Rattle.devices.specs.declared.Step.the-variants.{Stop}
 use Rattle.devices.specs.Contents.{freshContents, freshTablet}
 use Rattle.devices.specs.Effects.{answerOf, numberOf, keptAfter, addressed, copies, refuse}
-use Rattle.rules.specs.Table.{row, inRange}
-use Rattle.rules.specs.Rules.{deliver, lose, stop, ruled, effectOf}
+use Rattle.rules.specs.Table.{row}
+use Rattle.rules.specs.Rules.{effectOf}
+use Rattle.rules.proofs.FreeSlots.{effect-free}
 use Rattle.state.specs.declared.Slot.{Slot}
 use Rattle.state.specs.declared.Run.{Run}
 use Rattle.state.specs.declared.Stepped.{Stepped}
@@ -30,38 +30,6 @@ use Rattle.state.specs.State.{proper}
 use Rattle.parlour.specs.declared.Unplug.{Unplug}
 use Rattle.state.proofs.SlotLaws.{holding, many-end}
 use Rattle.parlour.proofs.Passes.{nothing-to-lay, Laying, lay-skip, lay-pass, lay-store, lay-done}
-
--- ---- The number of free slots matters only to the steps that count it
-
--- the same parts, with another number of free slots
-abbrev pub withFree : ℕ → Here → Here
-withFree free h = record { contents = h .contents; tablet = h .tablet; listed = h .listed; free = free; stopped = h .stopped }
-
-deliver-free : (m : Message) (free : ℕ) (h : Here) → deliver m (withFree free h) ≡ deliver m h
-unfolding deliver refuse
-deliver-free Empty free h = refl
-deliver-free (Request l) free h = refl
-deliver-free (Answer l) free h = refl
-deliver-free (Commit n) free h = refl
-
-ruled-free : (step : Step) (m : Message) (free : ℕ) (h : Here) → row step .counts ≡ false → ruled step m (withFree free h) ≡ ruled step m h
-unfolding ruled lose stop refuse
-ruled-free (Ask tablet own pair) m free h e = absurd (true≢false e)
-ruled-free (Advance tablet) m free h e = absurd (true≢false e)
-ruled-free (Deliver slot) m free h e = deliver-free m free h
-ruled-free (Lose slot) m free h e = refl
-ruled-free (Repeat slot) m free h e = absurd (true≢false e)
-ruled-free (Stop device) m free h e = refl
-
--- with the number of free slots where it counts, the effect is that of the parts
-pub effect-free : (ok : Bool) (step : Step) (m : Message) (free : ℕ) (h : Here) → (row step .counts ≡ true → free ≡ h .free)
-    → effectOf ok step m (withFree free h) ≡ effectOf ok step m h
-unfolding effectOf refuse
-effect-free ok step m free h p = go (row step .counts) refl
-  where
-    go : (b : Bool) → row step .counts ≡ b → effectOf ok step m (withFree free h) ≡ effectOf ok step m h
-    go true e = ap (λ (f : ℕ). effectOf ok step m (withFree f h)) (p e)
-    go false e = ap (λ (x : Effect). pick ok (pick (inRange (row step .names)) x (refuse 2 h)) (refuse 1 h)) (ruled-free step m free h e)
 
 -- ---- The stores
 
