@@ -6,16 +6,18 @@ use mathlib.Core.List.{List, [], _∷_, _++_}
 use mathlib.Core.Bool.{Bool, true, false, cond}
 use native.Mathlib.Nat.{add-zero}
 use native.Mathlib.Omega.{arith}
-use lib.ListN.{length, take, drop, length-append, length-take, length-drop}
-use lib.Seq.{take-append-le, take-all, take-take, drop-drop}
+use lib.ListN.{length, take, drop, length-append, length-take, length-drop, take-append-drop}
+use lib.Seq.{take-append-le, take-all, take-take, length-take-le, drop-drop}
 use lib.Dec.{leb, ltb, eqb}
 use borrow.Author.Tests.{lt-ltb, le-ltb, le-leb, lt-leb, eq-eqb, ne-eqb, leb-true, leb-false, eqb-false, eqb-true, ltb-true, ltb-false}
 use types.Run.{OneOf}
 use denote.Enum.Declared.{tagOf}
-use Rattle.tape.specs.Bits.{num, bits, fieldAt, word, Ahead}
-use Rattle.tape.specs.Edition.{Edition}
+use Rattle.tape.specs.Bits.{bit, num, bits, fieldAt, word, Ahead}
+use Rattle.tape.specs.Edition.{Edition, firstEdition, editionOf}
+use Rattle.tape.specs.declared.edition.Edition.{Edition as Named}
+use Rattle.tape.specs.declared.edition.Edition.the-variants as E
 use Rattle.tape.specs.Layout.{width, legal}
-use Rattle.tape.specs.Reading.{stepAt, kindAt, endAt, begins, readAt, Result, given, refused, more, onward, readFrom}
+use Rattle.tape.specs.Reading.{stepAt, kindAt, endAt, begins, endOr, readAt, Result, given, refused, more, onward, readFrom}
 use Rattle.tape.specs.Promises.{numberWith, numberAtEnd}
 use Rattle.tape.specs.declared.reading.Reading.{Reading}
 use Rattle.tape.specs.declared.reading.Reading.the-variants.{Step, Refused, End}
@@ -186,6 +188,47 @@ module _ (ed : Edition) (t : List Bool) (p : ℕ) where
   pub read-from : (f n : ℕ) → n < f → readFrom ed (f - n) t p ≡ onward (readAt ed t p) (readFrom ed (f - (n + 1)) t)
   unfolding readFrom
   read-from f n h = let e : f - n ≡ suc (f - (n + 1)) = omega arith in rw e
+
+-- where no step is: the end by the bits ahead, or else the refusal that reading comes to
+module _ (ed : Edition) (t : List Bool) (p x left : ℕ) (a : Ahead t p x) (q : p ≤ length t) (l : left ≡ length t - p) where
+  pub end-or : (number : ℕ) → (begins (ed .mark) (drop p t) ≡ false → readAt ed t p ≡ Refused number)
+      → endOr ed x left number ≡ readAt ed t p
+  end-or number h = go (begins (ed .mark) (drop p t)) refl
+    where
+      end : Reading
+      end = endAt (take (left - length (ed .mark)) (drop (length (ed .mark)) (bits 64 x))) 0
+
+      same : begins (ed .mark) (take left (bits 64 x)) ≡ begins (ed .mark) (drop p t)
+      same = mark-ahead (ed .mark) x left (ed .mark-most) t p a q l
+
+      go : (b : Bool) → begins (ed .mark) (drop p t) ≡ b → endOr ed x left number ≡ readAt ed t p
+      go true e =
+          let m = begins-is (ed .mark) (drop p t) e .0 in
+          ap (λ b. cond b end (Refused number)) (same ∙ e)
+          ∙ end-ahead t p x left (length (ed .mark)) a q l (omega (arith, m, length-drop p t)) (ed .mark-most) ∙ sym (read-mark ed t p e)
+      go false e = ap (λ b. cond b end (Refused number)) (same ∙ e) ∙ sym (h e)
+
+-- no step of the code's editions begins with the end mark
+unmarked : (e : Named) (f : List Bool) → width (editionOf e) (num (take 3 f)) ≢ 0 → legal (editionOf e) f ≡ true → begins (editionOf e .mark) f ≡ false
+unfolding bit num
+unmarked E.First f n h = go (begins (firstEdition .mark) f) refl
+  where
+    go : (b : Bool) → begins (firstEdition .mark) f ≡ b → b ≡ false
+    go true e = absurd (n (ap (width firstEdition) (begins-is (firstEdition .mark) f e .1)))
+    go false e = refl
+
+pub step-unmarked : (e : Named) (t : List Bool) (p k : ℕ) → num (take 3 (drop p t)) ≡ k → width (editionOf e) k ≢ 0 → p + width (editionOf e) k ≤ length t
+    → legal (editionOf e) (take (width (editionOf e) k) (drop p t)) ≡ true → begins (editionOf e .mark) (drop p t) ≡ false
+step-unmarked e t p k kind n l h =
+    let ed = editionOf e in
+    let w = width ed k in
+    let f = take w (drop p t) in
+    let six = width-least ed k n in
+    let long : length f ≡ w = length-take-le w (drop p t) (rw length-drop (omega arith)) in
+    let same : num (take 3 f) ≡ k = ap num (take-take 3 w (drop p t) (omega arith)) ∙ kind in
+    ap (begins (ed .mark)) (sym (take-append-drop w (drop p t)))
+    ∙ begins-append (ed .mark) f (drop w (drop p t)) (omega (arith, long, ed .mark-most))
+    ∙ unmarked e f (λ z. n (ap (width ed) (sym same) ∙ z)) h
 
 -- one step more, and what is left
 pub more-is : (x : ℕ) (o : Result) (l : List ℕ) → more x o ≡ given l → (ys : List ℕ) × (o ≡ given ys) × (l ≡ x ∷ ys)

@@ -161,51 +161,50 @@ module _ (ed : Edition) where
     f = take (width ed k) (bits 64 x)
 
     -- with the end mark it is no step
-    pub wide-mark : begins (ed .mark) (bits 64 x) ≡ true → wide ed x ≡ 0
+    wide-mark : begins (ed .mark) (bits 64 x) ≡ true → wide ed x ≡ 0
     unfolding wide endAt
     wide-mark b =
         ap (λ r. widthBy r x) (read-mark ed (bits 64 x) 0 b)
         ∙ cond-has (λ r. widthBy r x ≡ 0) (ltb (length (bits 64 x)) (0 + length (ed .mark) + 8))
         (λ _. cond-has (λ r. widthBy r x ≡ 0) (eqb (num (drop (0 + length (ed .mark)) (bits 64 x))) 0) (λ _. refl) (λ _. refl)) (λ _. refl)
 
-    module _ (b : begins (ed .mark) (bits 64 x) ≡ false) where
-      at-kind : readAt ed (bits 64 x) 0 ≡ kindAt ed (bits 64 x) 0 k
-      at-kind = read-kind ed (bits 64 x) 0 k b (rw length-bits (omega arith)) refl
+    unless-marked : (begins (ed .mark) (bits 64 x) ≡ false → wide ed x ≡ 0) → wide ed x ≡ 0
+    unless-marked h = go (begins (ed .mark) (bits 64 x)) refl
+      where
+        go : (b : Bool) → begins (ed .mark) (bits 64 x) ≡ b → wide ed x ≡ 0
+        go true b = wide-mark b
+        go false b = h b
 
-      wide-kind : width ed k ≡ 0 → wide ed x ≡ 0
+    at-kind : begins (ed .mark) (bits 64 x) ≡ false → readAt ed (bits 64 x) 0 ≡ kindAt ed (bits 64 x) 0 k
+    at-kind b = read-kind ed (bits 64 x) 0 k b (rw length-bits (omega arith)) refl
+
+    -- a word whose kind has no step is none
+    pub wide-none : width ed k ≡ 0 → wide ed x ≡ 0
+    unfolding wide
+    wide-none e = unless-marked (λ b. ap (λ r. widthBy r x) (at-kind b ∙ kind-none ed (bits 64 x) 0 k e))
+
+    module _ (n : width ed k ≢ 0) where
+      pub room : 0 + width ed k ≤ length (bits 64 x)
+      room = rw length-bits (omega (arith, width-most ed k))
+
+      at-step : begins (ed .mark) (bits 64 x) ≡ false → readAt ed (bits 64 x) 0 ≡ stepAt ed (bits 64 x) 0 (width ed k)
+      at-step b = at-kind b ∙ kind-step ed (bits 64 x) 0 k n
+
+      at-good : begins (ed .mark) (bits 64 x) ≡ false → legal ed f ≡ true → wide ed x ≡ cond (eqb (word f) x) (0 + width ed k) 0
       unfolding wide
-      wide-kind e = ap (λ r. widthBy r x) (at-kind ∙ kind-none ed (bits 64 x) 0 k e)
+      at-good b e = ap (λ r. widthBy r x) (at-step b ∙ step-good ed (bits 64 x) 0 (width ed k) room e)
 
-      module _ (n : width ed k ≢ 0) where
-        room : 0 + width ed k ≤ length (bits 64 x)
-        room = rw length-bits (omega (arith, width-most ed k))
+      pub wide-bad : legal ed f ≡ false → wide ed x ≡ 0
+      unfolding wide
+      wide-bad e = unless-marked (λ b. ap (λ r. widthBy r x) (at-step b ∙ step-bad ed (bits 64 x) 0 (width ed k) room e))
 
-        at-step : readAt ed (bits 64 x) 0 ≡ stepAt ed (bits 64 x) 0 (width ed k)
-        at-step = at-kind ∙ kind-step ed (bits 64 x) 0 k n
+      -- with a bit set below its step it is none
+      pub wide-low : word f ≢ x → wide ed x ≡ 0
+      wide-low h = unless-marked (λ b. go b (legal ed f) refl)
+        where
+          go : begins (ed .mark) (bits 64 x) ≡ false → (g : Bool) → legal ed f ≡ g → wide ed x ≡ 0
+          go b true e = at-good b e ∙ simp (ne-eqb _ _ h)
+          go b false e = wide-bad e
 
-        pub wide-bad : legal ed f ≡ false → wide ed x ≡ 0
-        unfolding wide
-        wide-bad e = ap (λ r. widthBy r x) (at-step ∙ step-bad ed (bits 64 x) 0 (width ed k) room e)
-
-        at-good : legal ed f ≡ true → wide ed x ≡ cond (eqb (word f) x) (0 + width ed k) 0
-        unfolding wide
-        at-good e = ap (λ r. widthBy r x) (at-step ∙ step-good ed (bits 64 x) 0 (width ed k) room e)
-
-        -- with a bit set below its step it is none
-        pub wide-low : word f ≢ x → wide ed x ≡ 0
-        wide-low h = go (legal ed f) refl
-          where
-            go : (g : Bool) → legal ed f ≡ g → wide ed x ≡ 0
-            go true e = at-good e ∙ simp (ne-eqb _ _ h)
-            go false e = wide-bad e
-
-        pub wide-good : legal ed f ≡ true → word f ≡ x → wide ed x ≡ width ed k
-        wide-good e h = at-good e ∙ simp (eq-eqb _ _ h) (zero-add (width ed k))
-
-  -- a word whose kind has no step is none
-  pub wide-none : (x : ℕ) → width ed (num (take 3 (bits 64 x))) ≡ 0 → wide ed x ≡ 0
-  wide-none x e = go (begins (ed .mark) (bits 64 x)) refl
-    where
-      go : (b : Bool) → begins (ed .mark) (bits 64 x) ≡ b → wide ed x ≡ 0
-      go true b = wide-mark x b
-      go false b = wide-kind x b e
+      pub wide-good : begins (ed .mark) (bits 64 x) ≡ false → legal ed f ≡ true → word f ≡ x → wide ed x ≡ width ed k
+      wide-good b e h = at-good b e ∙ simp (eq-eqb _ _ h) (zero-add (width ed k))

@@ -4,7 +4,7 @@ use mathlib.Core.List.{List, [], _∷_}
 use mathlib.Core.Bool.{Bool, false, cond}
 use lib.ListN.{length, take, drop}
 use lib.Dec.{leb, ltb, eqb}
-use Rattle.tape.specs.Bits.{num, bitsOf, word}
+use Rattle.tape.specs.Bits.{num, bits, bitsOf, word}
 use Rattle.tape.specs.Edition.{Edition, firstEdition}
 use Rattle.tape.specs.Layout.{width, legal}
 use Rattle.tape.specs.declared.reading.Reading.{Reading}
@@ -28,6 +28,11 @@ endAt t p = cond (ltb (length t) (p + 8)) (cond (eqb (num (drop p t)) 0) End (Re
 -- some bits begin with others
 unfoldable pub begins : List Bool → List Bool → Bool
 begins m l = cond (leb (length m) (length l)) (eqb (num (take (length m) l)) (num m)) false
+
+-- what a word says where no step is, having so many bits of a tape at its top: the end, by the end mark, or else a refusal
+abbrev pub endOr : Edition → ℕ → ℕ → ℕ → Reading
+endOr ed x left number =
+    cond (begins (ed .mark) (take left (bits 64 x))) (endAt (take (left - length (ed .mark)) (drop (length (ed .mark)) (bits 64 x))) 0) (Refused number)
 
 -- "Each reading ends as a step with the next bit position, or as a refusal, or as the end of the tape"
 unfoldable pub readAt : Edition → List Bool → ℕ → Reading

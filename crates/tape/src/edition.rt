@@ -1,10 +1,7 @@
 // The editions of the tape, and what stands around the steps of each: the head and the end mark. The fields of the steps are in layout.rt.
 ghost use mathlib.Core.Path.{_≡_};
 ghost use Rattle.tape.specs.Edition.{editionOf, markIn, headIn};
-ghost use lib.ListN.{take};
-ghost use Rattle.tape.specs.Bits.{bits};
-ghost use Rattle.tape.specs.Reading.{start, begins};
-use crate::bits::field;
+ghost use Rattle.tape.specs.Reading.{start};
 
 // A case for each edition: what is below the public calls takes one, and never meets a number that names none.
 pub(crate) enum Edition {
@@ -55,15 +52,4 @@ pub(crate) fn start_of(edition: Edition) -> usize
 {
     let head = head_of(edition);
     head.width - 16
-}
-
-// Whether a word begins with the end mark, so many of its bits being those of a tape.
-pub(crate) fn at_mark(edition: Edition, word: u64, left: usize) -> bool
-    ensures { λ r. ⌜ r ≡ begins (editionOf edition .mark) (take left (bits 64 word)) ⌝ }
-{
-    let mark = mark_of(edition);
-    if left < mark.width {
-        return false;
-    }
-    field(word, 0, mark.width) == mark.number
 }

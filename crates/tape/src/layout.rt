@@ -9,7 +9,6 @@ ghost use Rattle.tape.specs.Writing.{wide};
 use crate::bits::field;
 use crate::bits::top;
 use crate::edition::Edition;
-use crate::edition::at_mark;
 
 // How many bits a step takes with its kind, 0 for no step; the bits of each of its fields, in their order;
 // and the most that its first field may hold, where the others may hold whatever fits.
@@ -86,9 +85,6 @@ pub(crate) fn fields_allowed(edition: Edition, kind: u64, word: u64) -> bool
 pub(crate) fn step_width(edition: Edition, word: u64) -> usize
     ensures { λ r. ⌜ r ≡ wide (editionOf edition) word ⌝ }
 {
-    if at_mark(edition, word, 64) {
-        return 0;
-    }
     let kind = field(word, 0, 3);
     let l = layout_of(edition, kind);
     let w = l.width;

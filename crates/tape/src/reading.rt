@@ -5,14 +5,13 @@ ghost use mathlib.Core.List.{_++_};
 ghost use lib.ListN.{length, take, drop};
 ghost use Rattle.tape.specs.Bits.{bits, bitsOf};
 ghost use Rattle.tape.specs.Edition.{editionOf};
-ghost use Rattle.tape.specs.Reading.{endAt, readAt, start, readSteps, readIn, headOf, boxesIn, given, wordsOf};
+ghost use Rattle.tape.specs.Reading.{endAt, endOr, readAt, start, readSteps, readIn, headOf, boxesIn, given, wordsOf};
 ghost use Rattle.tape.specs.Promises.{numberWith, numberAtEnd};
 use crate::bits::ahead;
 use crate::bits::bytes_at;
 use crate::bits::field;
 use crate::bits::top;
 use crate::edition::Edition;
-use crate::edition::at_mark;
 use crate::edition::head_of;
 use crate::edition::mark_of;
 use crate::edition::start_of;
@@ -41,35 +40,45 @@ fn tail(x: u64, mark: usize, left: usize) -> Reading
     }
 }
 
-// What stands at bit p.
+// What stands where no step is, a word having so many bits from there on: the end, by the end mark, or else a refusal with this number.
+fn end_or(edition: Edition, x: u64, left: usize, number: u8) -> Reading
+    ensures { λ r. ⌜ r ≡ endOr (editionOf edition) x left number ⌝ }
+{
+    let mark = mark_of(edition);
+    let width = mark.width;
+    if left < width {
+        return Reading::Refused(number);
+    }
+    if field(x, 0, width) != mark.number {
+        return Reading::Refused(number);
+    }
+    tail(x, width, left - width)
+}
+
+// What stands at bit p. A step is looked for first: none of any edition begins with the end mark.
 fn read_step(edition: Edition, s: &[u8], p: usize) -> Reading
     requires { ⌜ (p ≤ 8 * length (now s)) × (length (now s) ≤ 4096) ⌝ }
     ensures { λ r. ⌜ r ≡ readAt (editionOf edition) (bitsOf (now (s .entry))) p ⌝ }
 {
     let left = 8 * s.len() - p;
     let x = ahead(s, p);
-    if at_mark(edition, x, left) {
-        let mark = mark_of(edition);
-        return tail(x, mark.width, left - mark.width);
-    }
     if left < 3 {
-        return Reading::Refused(13);
+        return end_or(edition, x, left, 13);
     }
     let kind = field(x, 0, 3);
     let l = layout_of(edition, kind);
     let w = l.width;
     if w == 0 {
-        return Reading::Refused(14);
+        return end_or(edition, x, left, 14);
     }
     if left < w {
-        return Reading::Refused(13);
+        return end_or(edition, x, left, 13);
     }
     let word = top(x, w);
     if fields_allowed(edition, kind, word) {
-        Reading::Step(word, p + w)
-    } else {
-        Reading::Refused(14)
+        return Reading::Step(word, p + w);
     }
+    end_or(edition, x, left, 14)
 }
 
 // The number that a reading that is no step gives after n steps, with room for so many.

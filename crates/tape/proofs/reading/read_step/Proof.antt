@@ -12,14 +12,13 @@ use lib.Seq.{take-take, length-take-le}
 use Rattle.tape.specs.Bits.{num, bits, bitsOf, fieldAt, word, Ahead}
 use Rattle.tape.specs.Edition.{editionOf}
 use Rattle.tape.specs.Layout.{width, legal}
-use Rattle.tape.specs.Reading.{begins, endAt, stepAt, readAt}
-use Rattle.tape.specs.declared.edition.Mark.{Mark}
+use Rattle.tape.specs.Reading.{begins, endOr, stepAt, readAt}
 use Rattle.tape.specs.declared.layout.Layout.{Layout}
-use Rattle.tape.specs.declared.reading.Reading.the-variants.{Step}
+use Rattle.tape.specs.declared.reading.Reading.the-variants.{Step, Refused}
 use Rattle.tape.proofs.ByteLaws.{length-bitsOf}
 use Rattle.tape.proofs.WordLaws.{field-top, take-word}
 use Rattle.tape.proofs.LayoutLaws.{width-most, width-least}
-use Rattle.tape.proofs.ReadingLaws.{begins-is, mark-ahead, end-ahead, read-mark, read-short, read-kind, kind-step, kind-none, step-short, step-good, step-bad}
+use Rattle.tape.proofs.ReadingLaws.{end-or, step-unmarked, read-short, read-kind, kind-step, kind-none, step-short, step-good, step-bad}
 use Rattle.tape.proofs.reading.read_step.Statement.{statement}
 use Rattle.tape.proofs.reading.read_step.Tie as tie
 
@@ -38,56 +37,58 @@ word-at s p w x y h l a e =
     let i : y ≡ word f = e ∙ ap word (a w (omega arith) (rw length-bitsOf l)) in
     record { is = i; top = ap (λ z. take w (bits 64 z)) i ∙ take-word f w (length-take-le w (drop p (bitsOf s)) (simp (length-drop, length-bitsOf) (omega arith))) (omega arith) }
 
--- what the code finds of the end mark is what stands at p
-marked : (c : tie.After-at-mark) → begins (editionOf (c .before .before .before .args .edition) .mark) (drop (c .before .before .before .args .p) (bitsOf (now (c .before .before .before .args .s)))) ≡ c .at-mark .result
-marked c =
-    let b = c .before .before .before in
+-- the end or a refusal, where reading comes to that refusal without the end mark
+no-step : (c : tie.After-ahead) (number : ℕ)
+    → (begins (editionOf (c .before .before .args .edition) .mark) (drop (c .before .before .args .p) (bitsOf (now (c .before .before .args .s)))) ≡ false → readAt (editionOf (c .before .before .args .edition)) (bitsOf (now (c .before .before .args .s))) (c .before .before .args .p) ≡ Refused number)
+    → endOr (editionOf (c .before .before .args .edition)) (c .ahead .result) (8 * length (now (c .before .before .args .s)) - c .before .before .args .p) number
+    ≡ readAt (editionOf (c .before .before .args .edition)) (bitsOf (now (c .before .before .args .s))) (c .before .before .args .p)
+no-step c number h =
+    let b = c .before .before in
     let a = b .args in
-    let ed = editionOf (a .edition) in
     let s = now (a .s) in
-    let x = c .before .ahead in
-    sym (c .at-mark .ensures ∙ mark-ahead (ed .mark) (x .result) (8 * length s - a .p) (ed .mark-most) (bitsOf s) (a .p) (x .ensures) (rw length-bitsOf (b .pre .0)) (ap (λ n. n - a .p) (sym (length-bitsOf s))))
+    end-or (editionOf (a .edition)) (bitsOf s) (a .p) (c .ahead .result) (8 * length s - a .p) (c .ahead .ensures) (rw length-bitsOf (b .pre .0)) (ap (λ n. n - a .p) (sym (length-bitsOf s))) number h
 
-kind : (c : tie.After-field) → num (take 3 (drop (c .before .before .before .before .before .before .args .p) (bitsOf (now (c .before .before .before .before .before .before .args .s))))) ≡ c .field .result
+kind : (c : tie.After-field) → num (take 3 (drop (c .before .before .before .before .args .p) (bitsOf (now (c .before .before .before .before .args .s))))) ≡ c .field .result
 kind c =
-    let x = c .before .before .before .before in
+    let x = c .before .before in
     let a = x .before .before .args in
     kind-is (now (a .s)) (a .p) (x .ahead .result) (c .field .result) (search needs) (x .ahead .ensures) (c .field .ensures)
 
-wide : (c : tie.After-layout-of) → c .layout-of .result .width ≡ width (editionOf (c .before .before .before .before .before .before .before .args .edition)) (c .before .field .result)
+wide : (c : tie.After-layout-of) → c .layout-of .result .width ≡ width (editionOf (c .before .before .before .before .before .args .edition)) (c .before .field .result)
 wide c = ap (λ (r : Layout). r .width) (c .layout-of .ensures)
 
-some : (c : tie.Else3) → width (editionOf (c .before .before .before .before .before .before .before .before .args .edition)) (c .before .before .field .result) ≢ 0
-some c e = c .if3 .left (wide (c .before) ∙ e)
+some : (c : tie.Else2) → width (editionOf (c .before .before .before .before .before .before .args .edition)) (c .before .before .field .result) ≢ 0
+some c e = c .if2 .left (wide (c .before) ∙ e)
 
-least : (c : tie.Else3) → 6 ≤ c .before .layout-of .result .width
-least c = omega (arith, wide (c .before), width-least (editionOf (c .before .before .before .before .before .before .before .before .args .edition)) (c .before .before .field .result) (some c))
+least : (c : tie.Else2) → 6 ≤ c .before .layout-of .result .width
+least c = omega (arith, wide (c .before), width-least (editionOf (c .before .before .before .before .before .before .args .edition)) (c .before .before .field .result) (some c))
 
-most : (c : tie.Else3) → c .before .layout-of .result .width ≤ 54
-most c = omega (arith, wide (c .before), width-most (editionOf (c .before .before .before .before .before .before .before .before .args .edition)) (c .before .before .field .result))
+most : (c : tie.Else2) → c .before .layout-of .result .width ≤ 54
+most c = omega (arith, wide (c .before), width-most (editionOf (c .before .before .before .before .before .before .args .edition)) (c .before .before .field .result))
 
-stepped : (c : tie.Else3) → readAt (editionOf (c .before .before .before .before .before .before .before .before .args .edition)) (bitsOf (now (c .before .before .before .before .before .before .before .before .args .s))) (c .before .before .before .before .before .before .before .before .args .p)
-    ≡ stepAt (editionOf (c .before .before .before .before .before .before .before .before .args .edition)) (bitsOf (now (c .before .before .before .before .before .before .before .before .args .s))) (c .before .before .before .before .before .before .before .before .args .p) (c .before .layout-of .result .width)
-stepped c =
+-- without the end mark the step of that kind is read
+stepped : (c : tie.Else2) → begins (editionOf (c .before .before .before .before .before .before .args .edition) .mark) (drop (c .before .before .before .before .before .before .args .p) (bitsOf (now (c .before .before .before .before .before .before .args .s)))) ≡ false
+    → readAt (editionOf (c .before .before .before .before .before .before .args .edition)) (bitsOf (now (c .before .before .before .before .before .before .args .s))) (c .before .before .before .before .before .before .args .p)
+    ≡ stepAt (editionOf (c .before .before .before .before .before .before .args .edition)) (bitsOf (now (c .before .before .before .before .before .before .args .s))) (c .before .before .before .before .before .before .args .p) (c .before .layout-of .result .width)
+stepped c b =
     let g = c .before .before in
-    let m = g .before .before .before in
-    let a = m .before .before .before .args in
+    let a = g .before .before .before .before .args in
     let ed = editionOf (a .edition) in
     let t = bitsOf (now (a .s)) in
-    read-kind ed t (a .p) (g .field .result) (marked m ∙ g .before .before .if1 .left) (simp length-bitsOf (search needs)) (kind g)
+    read-kind ed t (a .p) (g .field .result) b (simp length-bitsOf (search needs)) (kind g)
     ∙ kind-step ed t (a .p) (g .field .result) (some c) ∙ ap (stepAt ed t (a .p)) (sym (wide (c .before)))
 
-words : (c : tie.After-top) → Word (now (c .before .before .before .before .before .before .before .before .before .before .args .s)) (c .before .before .before .before .before .before .before .before .before .before .args .p) (c .before .before .before .layout-of .result .width) (c .top .result)
+words : (c : tie.After-top) → Word (now (c .before .before .before .before .before .before .before .before .args .s)) (c .before .before .before .before .before .before .before .before .args .p) (c .before .before .before .layout-of .result .width) (c .top .result)
 words c =
     let e = c .before .before in
-    let x = e .before .before .before .before .before .before in
+    let x = e .before .before .before .before in
     let a = x .before .before .args in
     word-at (now (a .s)) (a .p) (e .before .layout-of .result .width) (x .ahead .result) (c .top .result) (most e) (search needs) (x .ahead .ensures) (c .top .ensures)
 
-judged : (c : tie.After-fields-allowed) → legal (editionOf (c .before .before .before .before .before .before .before .before .before .before .before .args .edition)) (take (c .before .before .before .before .layout-of .result .width) (drop (c .before .before .before .before .before .before .before .before .before .before .before .args .p) (bitsOf (now (c .before .before .before .before .before .before .before .before .before .before .before .args .s))))) ≡ c .fields-allowed .result
+judged : (c : tie.After-fields-allowed) → legal (editionOf (c .before .before .before .before .before .before .before .before .before .args .edition)) (take (c .before .before .before .before .layout-of .result .width) (drop (c .before .before .before .before .before .before .before .before .before .args .p) (bitsOf (now (c .before .before .before .before .before .before .before .before .before .args .s))))) ≡ c .fields-allowed .result
 judged c =
     let l = c .before .before .before .before in
-    let ed = editionOf (l .before .before .before .before .before .before .before .args .edition) in
+    let ed = editionOf (l .before .before .before .before .before .args .edition) in
     sym (c .fields-allowed .ensures ∙ ap (λ w. legal ed (take w (bits 64 (c .before .top .result)))) (sym (wide l)) ∙ ap (legal ed) (words (c .before) .top))
 
 mul-left : tie.Need-mul-left
@@ -99,56 +100,14 @@ sub-left c = search needs
 ahead-requires : tie.Need-ahead-requires
 ahead-requires c κs = search needs
 
-at-mark-requires : tie.Need-at-mark-requires
-at-mark-requires c κs = search needs
-
-mark-of-requires : tie.Need-mark-of-requires
-mark-of-requires c κs = search needs
-
--- how much the mark takes, and that it is there
-record Mark-here (c : tie.After-mark-of) : Type 0 where
-  long : c .mark-of .result .width ≡ length (editionOf (c .before .before .before .before .before .args .edition) .mark)
-  there : c .mark-of .result .width ≤ 8 * length (now (c .before .before .before .before .before .args .s)) - c .before .before .before .before .before .args .p
-
-mark-here : (c : tie.After-mark-of) → Mark-here c
-mark-here c =
-    let m = c .before .before in
-    let a = m .before .before .before .args in
-    let ed = editionOf (a .edition) in
-    let s = now (a .s) in
-    let e = ap (λ (m : Mark). m .width) (c .mark-of .ensures) in
-    let b = begins-is (ed .mark) (drop (a .p) (bitsOf s)) (marked m ∙ c .before .if1 .taken) in
-    record { long = e; there = omega (arith, e, b .0, length-drop (a .p) (bitsOf s), length-bitsOf s) }
-
-sub-tail : tie.Need-sub-tail
-sub-tail c = omega (arith, mark-here (c .before) .there)
-
-tail-requires : tie.Need-tail-requires
-tail-requires c κs =
-    let m = c .before in
-    omega (arith, mark-here m .long, editionOf (m .before .before .before .before .before .args .edition) .mark-most)
+end-or-requires : tie.Need-end-or-requires
+end-or-requires c κs = search needs
 
 returns : tie.Need-returns
 returns c =
-    let k = c .before .before in
-    let m = k .before .before in
-    let b = m .before .before .before in
-    let a = b .args in
-    let ed = editionOf (a .edition) in
-    let s = now (a .s) in
-    let t = bitsOf s in
-    let h = mark-here k in
-    let w = k .mark-of .result .width in
-    c .tail .ensures
-    ∙ end-ahead t (a .p) (m .before .ahead .result) (8 * length s - a .p) w (m .before .ahead .ensures) (rw length-bitsOf (b .pre .0)) (ap (λ n. n - a .p) (sym (length-bitsOf s))) (h .there) (omega (arith, h .long, ed .mark-most))
-    ∙ ap (λ n. endAt t (a .p + n)) (h .long)
-    ∙ sym (read-mark ed t (a .p) (marked m ∙ k .before .if1 .taken))
-
-returns-2 : tie.Need-returns-2
-returns-2 c =
-    let m = c .before .before in
-    let a = m .before .before .before .args in
-    sym (read-short (editionOf (a .edition)) (bitsOf (now (a .s))) (a .p) (marked m ∙ c .before .if1 .left) (simp length-bitsOf (search needs)))
+    let x = c .before .before in
+    let a = x .before .before .args in
+    c .end-or .ensures ∙ no-step x 13 (λ b. read-short (editionOf (a .edition)) (bitsOf (now (a .s))) (a .p) b (simp length-bitsOf (search needs)))
 
 field-requires : tie.Need-field-requires
 field-requires c κs = search needs
@@ -156,22 +115,30 @@ field-requires c κs = search needs
 layout-of-requires : tie.Need-layout-of-requires
 layout-of-requires c κs = search needs
 
-returns-3 : tie.Need-returns-3
-returns-3 c =
-    let l = c .before in
+end-or-requires-2 : tie.Need-end-or-requires-2
+end-or-requires-2 c κs = search needs
+
+returns-2 : tie.Need-returns-2
+returns-2 c =
+    let l = c .before .before in
     let g = l .before in
-    let m = g .before .before .before in
-    let a = m .before .before .before .args in
+    let x = g .before .before in
+    let a = x .before .before .args in
     let ed = editionOf (a .edition) in
     let t = bitsOf (now (a .s)) in
-    sym (read-kind ed t (a .p) (g .field .result) (marked m ∙ g .before .before .if1 .left) (simp length-bitsOf (search needs)) (kind g)
-    ∙ kind-none ed t (a .p) (g .field .result) (sym (wide l) ∙ c .if3 .taken))
+    c .end-or2 .ensures
+    ∙ no-step x 14 (λ b. read-kind ed t (a .p) (g .field .result) b (simp length-bitsOf (search needs)) (kind g) ∙ kind-none ed t (a .p) (g .field .result) (sym (wide l) ∙ c .before .if2 .taken))
 
-returns-4 : tie.Need-returns-4
-returns-4 c =
-    let e = c .before in
-    let a = e .before .before .before .before .before .before .before .before .args in
-    sym (stepped e ∙ step-short (editionOf (a .edition)) (bitsOf (now (a .s))) (a .p) (e .before .layout-of .result .width) (simp length-bitsOf (search needs)))
+end-or-requires-3 : tie.Need-end-or-requires-3
+end-or-requires-3 c κs = search needs
+
+returns-3 : tie.Need-returns-3
+returns-3 c =
+    let e = c .before .before in
+    let x = e .before .before .before .before in
+    let a = x .before .before .args in
+    c .end-or3 .ensures
+    ∙ no-step x 13 (λ b. stepped e b ∙ step-short (editionOf (a .edition)) (bitsOf (now (a .s))) (a .p) (e .before .layout-of .result .width) (simp length-bitsOf (search needs)))
 
 top-requires : tie.Need-top-requires
 top-requires c κs = (omega (arith, least (c .before)), omega (arith, most (c .before)))
@@ -180,26 +147,38 @@ fields-allowed-requires : tie.Need-fields-allowed-requires
 fields-allowed-requires c κs =
     let e = c .before .before in
     let g = e .before .before in
-    let a = g .before .before .before .before .before .before .args in
+    let a = g .before .before .before .before .args in
     let w = e .before .layout-of .result .width in
     (sym (kind g) ∙ ap num (sym (take-take 3 w (drop (a .p) (bitsOf (now (a .s)))) (omega (arith, least e))) ∙ ap (take 3) (sym (words c .top)) ∙ take-take 3 w (bits 64 (c .top .result)) (omega (arith, least e))), some e)
 
-add-t18 : tie.Need-add-t18
-add-t18 c = search needs
+add-t14 : tie.Need-add-t14
+add-t14 c = search needs
+
+returns-4 : tie.Need-returns-4
+returns-4 c =
+    let e = c .before .before .before .before in
+    let g = e .before .before in
+    let a = g .before .before .before .before .args in
+    let ed = editionOf (a .edition) in
+    let t = bitsOf (now (a .s)) in
+    let w = e .before .layout-of .result .width in
+    let good = judged (c .before) ∙ c .if4 .taken in
+    let b = step-unmarked (a .edition) t (a .p) (g .field .result) (kind g) (some e) (simp length-bitsOf (omega (arith, wide (e .before), c .before .before .before .if3 .left)))
+    (ap (λ n. legal ed (take n (drop (a .p) t))) (sym (wide (e .before))) ∙ good) in
+    ap (λ x. Step x (a .p + w)) (words (c .before .before) .is)
+    ∙ sym (stepped e b ∙ step-good ed t (a .p) w (simp length-bitsOf (search needs)) good)
+
+end-or-requires-4 : tie.Need-end-or-requires-4
+end-or-requires-4 c κs = search needs
 
 returns-5 : tie.Need-returns-5
 returns-5 c =
-    let e = c .before .before .before .before in
-    let a = e .before .before .before .before .before .before .before .before .args in
-    let w = e .before .layout-of .result .width in
-    ap (λ x. Step x (a .p + w)) (words (c .before .before) .is)
-    ∙ sym (stepped e ∙ step-good (editionOf (a .edition)) (bitsOf (now (a .s))) (a .p) w (simp length-bitsOf (search needs)) (judged (c .before) ∙ c .if5 .taken))
-
-returns-6 : tie.Need-returns-6
-returns-6 c =
-    let e = c .before .before .before .before in
-    let a = e .before .before .before .before .before .before .before .before .args in
-    sym (stepped e ∙ step-bad (editionOf (a .edition)) (bitsOf (now (a .s))) (a .p) (e .before .layout-of .result .width) (simp length-bitsOf (search needs)) (judged (c .before) ∙ c .if5 .left))
+    let f = c .before .before in
+    let e = f .before .before .before in
+    let x = e .before .before .before .before in
+    let a = x .before .before .args in
+    c .end-or4 .ensures
+    ∙ no-step x 14 (λ b. stepped e b ∙ step-bad (editionOf (a .edition)) (bitsOf (now (a .s))) (a .p) (e .before .layout-of .result .width) (simp length-bitsOf (search needs)) (judged f ∙ c .before .if4 .left))
 
 pub read-step-spec : {M : Type 1} → statement M
 read-step-spec =
@@ -208,18 +187,17 @@ read-step-spec =
     mul-left
     sub-left
     ahead-requires
-    at-mark-requires
-    mark-of-requires
-    sub-tail
-    tail-requires
+    end-or-requires
     returns
-    returns-2
     field-requires
     layout-of-requires
+    end-or-requires-2
+    returns-2
+    end-or-requires-3
     returns-3
-    returns-4
     top-requires
     fields-allowed-requires
-    add-t18
-    returns-5
-    returns-6)
+    add-t14
+    returns-4
+    end-or-requires-4
+    returns-5)
