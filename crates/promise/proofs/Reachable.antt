@@ -1,9 +1,7 @@
 -- The kept join of specs/Reachable, proved: each step joins what its answer hands back.
-use Prim.Native.Nat.{ℕ}
-use mathlib.Core.List.{List, [], _∷_}
+use mathlib.Core.List.{[], _∷_}
 use mathlib.Core.Path.{_≡_, refl, ap, _∙_}
 use Rattle.books.specs.declared.Book.{Book}
-use Rattle.devices.specs.declared.Step.{Step}
 use Rattle.devices.specs.declared.Outcome.{Outcome}
 use Rattle.devices.specs.declared.Outcome.the-variants.{Done, Round, Committed, Adopted, Refused}
 use Rattle.devices.specs.Effects.{answerOf, keptAfter}

@@ -141,8 +141,8 @@ unfolding taken takenIf applied
 step-follows {r = r} step now =
     let m = messageAt (slotOf step) r in
     let d = deviceOf step m in
-    acts-follow now (slotOf step) d (within-lt 24 (deviceNamed (row step .names) m) (omega arith)) (acts (proper r) step m (hereAt d r)) (parts-proper r (now .parts)) refl
-    (now .parts .messages (slotOf step)) (now .follows .like .slots (slotOf step))
+    acts-follow now (slotOf step) d (within-lt 24 (deviceNamed (row step .names) m) (omega arith)) (acts (proper r) step m (hereAt d r))
+    (parts-proper r (now .parts)) refl (now .parts .messages (slotOf step)) (now .follows .like .slots (slotOf step))
 
 -- ---- The run
 

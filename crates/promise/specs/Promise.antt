@@ -5,7 +5,7 @@
 -- has to speak of them. Nothing is assumed of the first boxes or of the numbers in a step: with no first box no run starts (12), and a step
 -- with a number out of range is refused (2), but the promise holds of them too.
 use Prim.Native.Nat.{ℕ}
-use mathlib.Core.Bool.{Bool, true, false}
+use mathlib.Core.Bool.{Bool, true}
 use mathlib.Core.Path.{_≡_}
 use mathlib.Core.Logic.{_⊎_}
 use mathlib.Core.List.{List, [], _∷_}
