@@ -1,5 +1,5 @@
 -- The cases of the definitions of reading, one law for each; and that readings go on.
-use mathlib.Core.Path.{_≡_, refl, sym, ap, _∙_}
+use mathlib.Core.Path.{_≡_, refl, sym, ap, ap₂, _∙_}
 use mathlib.Core.Logic.{_≢_, ⊎-elim}
 use Prim.Native.Nat.{ℕ, zero, suc, _+_, _-_, _≤_, _<_}
 use mathlib.Core.List.{List, [], _∷_, _++_}
@@ -7,7 +7,7 @@ use mathlib.Core.Bool.{Bool, true, false, cond}
 use native.Mathlib.Nat.{add-zero}
 use native.Mathlib.Omega.{arith}
 use lib.ListN.{length, take, drop, length-append, length-take, length-drop, take-append-drop}
-use lib.Seq.{take-append-le, take-all, take-take, length-take-le, drop-drop}
+use lib.Seq.{take-append-le, take-all, take-take, take-add, length-take-le, drop-drop}
 use lib.Dec.{leb, ltb, eqb}
 use borrow.Author.Tests.{lt-ltb, le-ltb, le-leb, lt-leb, eq-eqb, ne-eqb, leb-true, leb-false, eqb-false, eqb-true, ltb-true, ltb-false}
 use types.Run.{OneOf}
@@ -22,8 +22,8 @@ use Rattle.tape.specs.Promises.{numberWith, numberAtEnd}
 use Rattle.tape.specs.declared.reading.Reading.{Reading}
 use Rattle.tape.specs.declared.reading.Reading.the-variants.{Step, Refused, End}
 use Rattle.tape.proofs.reading.Reading.{the-type}
-use Rattle.tape.proofs.BitLaws.{length-bits, drop-take}
-use Rattle.tape.proofs.WordLaws.{field-top}
+use Rattle.tape.proofs.BitLaws.{length-bits, num-inj, drop-take}
+use Rattle.tape.proofs.WordLaws.{field-top, field-inside}
 use Rattle.tape.proofs.LayoutLaws.{cond-has, both, width-least}
 
 module _ (m l : List Bool) where
@@ -31,7 +31,7 @@ module _ (m l : List Bool) where
   unfolding begins
   begins-yes h e = simp (le-leb _ _ h, eq-eqb _ _ e)
 
-  begins-short : length l < length m → begins m l ≡ false
+  pub begins-short : length l < length m → begins m l ≡ false
   unfolding begins
   begins-short h = simp (lt-leb _ _ h)
 
@@ -51,7 +51,7 @@ module _ (m : List Bool) (x left : ℕ) (small : length m ≤ 6) where
   pub mark-short : left < length m → begins m (take left (bits 64 x)) ≡ false
   mark-short h = begins-short m (take left (bits 64 x)) (rw length-take (omega arith))
 
-  pub mark-field : length m ≤ left → begins m (take left (bits 64 x)) ≡ eqb (fieldAt x 0 (length m)) (num m)
+  mark-field : length m ≤ left → begins m (take left (bits 64 x)) ≡ eqb (fieldAt x 0 (length m)) (num m)
   unfolding begins
   mark-field h =
       let k : length m ≤ length (take left (bits 64 x)) = simp (length-take, length-bits) (omega arith) in
@@ -120,6 +120,45 @@ end-ahead t p x left m a q e h s = go (ltb (left - m) 8) refl
     go false f =
         let l : 8 ≤ left - m = ltb-false _ _ f in
         end-long (take (left - m) (drop m (bits 64 x))) 0 (simp (length-take, length-drop, length-bits) (omega arith)) ∙ sym (end-long t (p + m) (omega arith))
+
+-- the same by the kind that the mark begins with, and by the bits behind that
+module _ (m : List Bool) (x left : ℕ) (small : length m ≤ 6) (kinded : 3 ≤ length m) where
+  rest-of : drop 3 (take (length m) (bits 64 x)) ≡ take (length m - 3) (drop 3 (bits 64 x))
+  rest-of =
+      let e : length m ≡ 3 + (length m - 3) = omega arith in
+      ap (λ n. drop 3 (take n (bits 64 x))) e ∙ drop-take 3 (length m - 3) (bits 64 x) (rw length-bits (omega arith))
+
+  mark-there : begins m (take left (bits 64 x)) ≡ true → take (length m) (bits 64 x) ≡ m
+  mark-there h =
+      let b = begins-is m (take left (bits 64 x)) h in
+      let l : length m ≤ left = omega (arith, b .0, length-take left (bits 64 x)) in
+      let e = take-take (length m) left (bits 64 x) l in
+      num-inj (take (length m) (bits 64 x)) m (length-take-le (length m) (bits 64 x) (rw length-bits (omega arith))) (ap num (sym e) ∙ b .1)
+
+  not-there : (begins m (take left (bits 64 x)) ≡ true → ⊥) → begins m (take left (bits 64 x)) ≡ false
+  not-there h = go (begins m (take left (bits 64 x))) refl
+    where
+      go : (b : Bool) → begins m (take left (bits 64 x)) ≡ b → b ≡ false
+      go true e = absurd (h e)
+      go false e = refl
+
+  pub mark-other : num (take 3 (bits 64 x)) ≢ num (take 3 m) → begins m (take left (bits 64 x)) ≡ false
+  mark-other h = not-there (λ b. h (ap num (sym (take-take 3 (length m) (bits 64 x) kinded) ∙ ap (take 3) (mark-there b))))
+
+  pub mark-rest : fieldAt x 3 (length m - 3) ≢ num (drop 3 m) → begins m (take left (bits 64 x)) ≡ false
+  mark-rest h = not-there (λ b. h (field-inside x 3 (length m - 3) (omega arith) ∙ ap num (sym rest-of ∙ ap (drop 3) (mark-there b))))
+
+  pub mark-is : length m ≤ left → num (take 3 (bits 64 x)) ≡ num (take 3 m) → fieldAt x 3 (length m - 3) ≡ num (drop 3 m) → begins m (take left (bits 64 x)) ≡ true
+  mark-is l k r =
+      let e : length m ≡ 3 + (length m - 3) = omega arith in
+      let f : take 3 (bits 64 x) ≡ take 3 m =
+      num-inj (take 3 (bits 64 x)) (take 3 m) (length-take-le 3 (bits 64 x) (rw length-bits (omega arith)) ∙ sym (length-take-le 3 m kinded)) k in
+      let g : take (length m - 3) (drop 3 (bits 64 x)) ≡ drop 3 m =
+      num-inj (take (length m - 3) (drop 3 (bits 64 x))) (drop 3 m) (length-take-le (length m - 3) (drop 3 (bits 64 x)) (simp (length-drop, length-bits) (omega arith)) ∙ sym (length-drop 3 m))
+      (sym (field-inside x 3 (length m - 3) (omega arith)) ∙ r) in
+      let all : take (length m) (bits 64 x) ≡ m =
+      ap (λ n. take n (bits 64 x)) e ∙ take-add 3 (length m - 3) (bits 64 x) ∙ ap₂ (λ a b. a ++ b) f g ∙ take-append-drop 3 m in
+      begins-yes m (take left (bits 64 x)) (simp (length-take, length-bits) (omega arith)) (ap num (take-take (length m) left (bits 64 x) l ∙ all))
 
 -- a reading that is a step goes on, within the tape
 abbrev pub Moves : List Bool → ℕ → Reading → Type 0

@@ -5,7 +5,7 @@ use mathlib.Core.Path.{_≡_, refl}
 use mathlib.Core.List.{List, [], _∷_}
 use mathlib.Core.Bool.{Bool, true, false, cond}
 use native.Mathlib.Omega.{arith}
-use lib.ListN.{length}
+use lib.ListN.{length, take, drop}
 use lib.Dec.{leb, eqb}
 use Rattle.tape.specs.Bits.{num}
 use Rattle.tape.specs.declared.edition.Mark.{Mark}
@@ -44,7 +44,7 @@ every test (x ∷ xs) = cond (test x) (every test xs) false
 pub record Edition : Type 0 where
   -- the fields of the steps of each kind, from kind 0 on
   pub rows : List (List Field)
-  -- the bits that end a tape
+  -- the bits that end a tape: a kind, and in some editions more
   pub mark : List Bool
   -- the bit at which the 16-bit set of first boxes begins
   pub boxes-at : ℕ
@@ -52,7 +52,7 @@ pub record Edition : Type 0 where
   pub head : ℕ
   -- what the reader and the writer need of them
   pub rows-fit : every fits rows ≡ true
-  pub mark-least : 1 ≤ length mark
+  pub mark-least : 3 ≤ length mark
   pub mark-most : length mark ≤ 6
   pub boxes-inside : boxes-at + 16 ≤ head
   pub head-most : head ≤ 80
@@ -99,9 +99,9 @@ firstEdition = record {
 abbrev pub editionOf : Named → Edition
 editionOf E.First = firstEdition
 
--- the end mark as a number and its bits
+-- the end mark: its kind, the bits behind that, and the whole of it
 abbrev pub markIn : Edition → Mark
-markIn ed = record { number = num (ed .mark); width = length (ed .mark) }
+markIn ed = record { kind = num (take 3 (ed .mark)); rest = num (drop 3 (ed .mark)); number = num (ed .mark); width = length (ed .mark) }
 
 -- where the first boxes stand, and where the steps begin
 abbrev pub headIn : Edition → Head

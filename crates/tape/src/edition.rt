@@ -8,8 +8,10 @@ pub(crate) enum Edition {
     First,
 }
 
-// The end mark: the number that its bits are, and how many they are.
+// The end mark: the kind that it begins with and the bits behind that, all its bits as one number, and how many they are.
 pub(crate) struct Mark {
+    pub(crate) kind: u64,
+    pub(crate) rest: u64,
     pub(crate) number: u64,
     pub(crate) width: usize,
 }
@@ -25,8 +27,10 @@ pub(crate) fn mark_of(edition: Edition) -> Mark
     ensures { λ r. ⌜ r ≡ markIn (editionOf edition) ⌝ }
 {
     match edition {
-        // Kind 7.
+        // Kind 7 alone.
         Edition::First => Mark {
+            kind: 7,
+            rest: 0,
             number: 7,
             width: 3,
         },

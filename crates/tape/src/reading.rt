@@ -3,7 +3,7 @@ ghost use mathlib.Core.Path.{_≡_};
 ghost use Prim.Native.Nat.{_*_, _≤_};
 ghost use mathlib.Core.List.{_++_};
 ghost use lib.ListN.{length, take, drop};
-ghost use Rattle.tape.specs.Bits.{bits, bitsOf};
+ghost use Rattle.tape.specs.Bits.{num, bits, bitsOf};
 ghost use Rattle.tape.specs.Edition.{editionOf};
 ghost use Rattle.tape.specs.Reading.{endAt, endOr, readAt, start, readSteps, readIn, headOf, boxesIn, given, wordsOf};
 ghost use Rattle.tape.specs.Promises.{numberWith, numberAtEnd};
@@ -40,16 +40,20 @@ fn tail(x: u64, mark: usize, left: usize) -> Reading
     }
 }
 
-// What stands where no step is, a word having so many bits from there on: the end, by the end mark, or else a refusal with this number.
-fn end_or(edition: Edition, x: u64, left: usize, number: u8) -> Reading
+// What stands where no step of a kind is, a word having so many bits from there on: the end, by the end mark, or else a refusal with this number.
+fn end_or(edition: Edition, kind: u64, x: u64, left: usize, number: u8) -> Reading
+    requires { ⌜ kind ≡ num (take 3 (bits 64 x)) ⌝ }
     ensures { λ r. ⌜ r ≡ endOr (editionOf edition) x left number ⌝ }
 {
     let mark = mark_of(edition);
     let width = mark.width;
+    if kind != mark.kind {
+        return Reading::Refused(number);
+    }
     if left < width {
         return Reading::Refused(number);
     }
-    if field(x, 0, width) != mark.number {
+    if field(x, 3, width - 3) != mark.rest {
         return Reading::Refused(number);
     }
     tail(x, width, left - width)
@@ -63,22 +67,22 @@ fn read_step(edition: Edition, s: &[u8], p: usize) -> Reading
     let left = 8 * s.len() - p;
     let x = ahead(s, p);
     if left < 3 {
-        return end_or(edition, x, left, 13);
+        return Reading::Refused(13);
     }
     let kind = field(x, 0, 3);
     let l = layout_of(edition, kind);
     let w = l.width;
     if w == 0 {
-        return end_or(edition, x, left, 14);
+        return end_or(edition, kind, x, left, 14);
     }
     if left < w {
-        return end_or(edition, x, left, 13);
+        return end_or(edition, kind, x, left, 13);
     }
     let word = top(x, w);
     if fields_allowed(edition, kind, word) {
         return Reading::Step(word, p + w);
     }
-    end_or(edition, x, left, 14)
+    end_or(edition, kind, x, left, 14)
 }
 
 // The number that a reading that is no step gives after n steps, with room for so many.

@@ -7,7 +7,7 @@ use Rattle.tape.specs.declared.edition.Edition.the-variants.{First}
 use Rattle.tape.proofs.edition.mark_of.Statement.{statement}
 use Rattle.tape.proofs.edition.mark_of.Tie as tie
 
-kind-7 : (e : Edition) → record { number = 7; width = 3 } ≡ markIn (editionOf e)
+kind-7 : (e : Edition) → record { kind = 7; rest = 0; number = 7; width = 3 } ≡ markIn (editionOf e)
 unfolding bit num
 kind-7 First = refl
 

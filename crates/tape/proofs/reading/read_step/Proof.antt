@@ -4,7 +4,7 @@ use native.Mathlib.Omega.{arith}
 use mathlib.Core.Path.{_≡_, sym, ap, _∙_}
 use denote.Ref.{now}
 use mathlib.Core.Logic.{_≢_}
-use Prim.Native.Nat.{ℕ, _+_, _-_, _*_, _≤_}
+use Prim.Native.Nat.{ℕ, _+_, _-_, _*_, _≤_, _<_}
 use mathlib.Core.Bool.{false}
 use mathlib.Core.List.{List}
 use lib.ListN.{length, take, drop, length-drop}
@@ -18,7 +18,7 @@ use Rattle.tape.specs.declared.reading.Reading.the-variants.{Step, Refus
 use Rattle.tape.proofs.ByteLaws.{length-bitsOf}
 use Rattle.tape.proofs.WordLaws.{field-top, take-word}
 use Rattle.tape.proofs.LayoutLaws.{width-most, width-least}
-use Rattle.tape.proofs.ReadingLaws.{end-or, step-unmarked, read-short, read-kind, kind-step, kind-none, step-short, step-good, step-bad}
+use Rattle.tape.proofs.ReadingLaws.{begins-short, end-or, step-unmarked, read-short, read-kind, kind-step, kind-none, step-short, step-good, step-bad}
 use Rattle.tape.proofs.reading.read_step.Statement.{statement}
 use Rattle.tape.proofs.reading.read_step.Tie as tie
 
@@ -53,6 +53,9 @@ kind c =
     let x = c .before .before in
     let a = x .before .before .args in
     kind-is (now (a .s)) (a .p) (x .ahead .result) (c .field .result) (search needs) (x .ahead .ensures) (c .field .ensures)
+
+cut : (c : tie.After-field) → c .field .result ≡ num (take 3 (bits 64 (c .before .before .ahead .result)))
+cut c = c .field .ensures ∙ field-top (c .before .before .ahead .result) 3 (omega arith)
 
 wide : (c : tie.After-layout-of) → c .layout-of .result .width ≡ width (editionOf (c .before .before .before .before .before .args .edition)) (c .before .field .result)
 wide c = ap (λ (r : Layout). r .width) (c .layout-of .ensures)
@@ -100,14 +103,13 @@ sub-left c = search needs
 ahead-requires : tie.Need-ahead-requires
 ahead-requires c κs = search needs
 
-end-or-requires : tie.Need-end-or-requires
-end-or-requires c κs = search needs
-
 returns : tie.Need-returns
 returns c =
-    let x = c .before .before in
-    let a = x .before .before .args in
-    c .end-or .ensures ∙ no-step x 13 (λ b. read-short (editionOf (a .edition)) (bitsOf (now (a .s))) (a .p) b (simp length-bitsOf (search needs)))
+    let a = c .before .before .before .args in
+    let ed = editionOf (a .edition) in
+    let t = bitsOf (now (a .s)) in
+    let few : length t < a .p + 3 = simp length-bitsOf (search needs) in
+    sym (read-short ed t (a .p) (begins-short (ed .mark) (drop (a .p) t) (rw length-drop (omega (arith, ed .mark-least)))) few)
 
 field-requires : tie.Need-field-requires
 field-requires c κs = search needs
@@ -115,8 +117,8 @@ field-requires c κs = search needs
 layout-of-requires : tie.Need-layout-of-requires
 layout-of-requires c κs = search needs
 
-end-or-requires-2 : tie.Need-end-or-requires-2
-end-or-requires-2 c κs = search needs
+end-or-requires : tie.Need-end-or-requires
+end-or-requires c κs = cut (c .before .before)
 
 returns-2 : tie.Need-returns-2
 returns-2 c =
@@ -126,18 +128,18 @@ returns-2 c =
     let a = x .before .before .args in
     let ed = editionOf (a .edition) in
     let t = bitsOf (now (a .s)) in
-    c .end-or2 .ensures
+    c .end-or .ensures
     ∙ no-step x 14 (λ b. read-kind ed t (a .p) (g .field .result) b (simp length-bitsOf (search needs)) (kind g) ∙ kind-none ed t (a .p) (g .field .result) (sym (wide l) ∙ c .before .if2 .taken))
 
-end-or-requires-3 : tie.Need-end-or-requires-3
-end-or-requires-3 c κs = search needs
+end-or-requires-2 : tie.Need-end-or-requires-2
+end-or-requires-2 c κs = cut (c .before .before .before)
 
 returns-3 : tie.Need-returns-3
 returns-3 c =
     let e = c .before .before in
     let x = e .before .before .before .before in
     let a = x .before .before .args in
-    c .end-or3 .ensures
+    c .end-or2 .ensures
     ∙ no-step x 13 (λ b. stepped e b ∙ step-short (editionOf (a .edition)) (bitsOf (now (a .s))) (a .p) (e .before .layout-of .result .width) (simp length-bitsOf (search needs)))
 
 top-requires : tie.Need-top-requires
@@ -168,8 +170,8 @@ returns-4 c =
     ap (λ x. Step x (a .p + w)) (words (c .before .before) .is)
     ∙ sym (stepped e b ∙ step-good ed t (a .p) w (simp length-bitsOf (search needs)) good)
 
-end-or-requires-4 : tie.Need-end-or-requires-4
-end-or-requires-4 c κs = search needs
+end-or-requires-3 : tie.Need-end-or-requires-3
+end-or-requires-3 c κs = cut (c .before .before .before .before .before .before)
 
 returns-5 : tie.Need-returns-5
 returns-5 c =
@@ -177,7 +179,7 @@ returns-5 c =
     let e = f .before .before .before in
     let x = e .before .before .before .before in
     let a = x .before .before .args in
-    c .end-or4 .ensures
+    c .end-or3 .ensures
     ∙ no-step x 14 (λ b. stepped e b ∙ step-bad (editionOf (a .edition)) (bitsOf (now (a .s))) (a .p) (e .before .layout-of .result .width) (simp length-bitsOf (search needs)) (judged f ∙ c .before .if4 .left))
 
 pub read-step-spec : {M : Type 1} → statement M
@@ -187,17 +189,16 @@ read-step-spec =
     mul-left
     sub-left
     ahead-requires
-    end-or-requires
     returns
     field-requires
     layout-of-requires
-    end-or-requires-2
+    end-or-requires
     returns-2
-    end-or-requires-3
+    end-or-requires-2
     returns-3
     top-requires
     fields-allowed-requires
     add-t14
     returns-4
-    end-or-requires-4
+    end-or-requires-3
     returns-5)
