@@ -1,4 +1,6 @@
 // A line of a text: the first boxes, or a step as the word of the tape.
+use crate::encoded::Encoded;
+use crate::encoded::encode;
 use crate::wrong::Wrong;
 use streams::Number;
 use streams::Word;
@@ -153,39 +155,13 @@ fn step_at(words: Words, at: usize) -> Parsed
     Parsed::Wrong(Wrong::NoStep)
 }
 
-// The fields at their places in a word, most significant bit first (01, "The tape").
-fn laid(f: Fields) -> u64 {
-    let kind = f.kind;
-    match kind {
-        0 => (f.first << 58) | (f.second << 50) | (f.third << 34) | (f.fourth << 18),
-        1 => (kind << 61) | (f.first << 58),
-        5 => (kind << 61) | (f.first << 56),
-        _ => (kind << 61) | (f.first << 54),
-    }
-}
-
-// Whether the tape's own reading of a word gives these fields.
-fn reads_as(word: u64, f: Fields) -> bool {
-    let g = tape::fields_of(word);
-    (g.kind == f.kind)
-        & (g.first == f.first)
-        & (g.second == f.second)
-        & (g.third == f.third)
-        & (g.fourth == f.fourth)
-}
-
-// So many steps, if the word that is written would be read as the step that the line asks for.
 fn steps_line(parsed: Parsed, times: u64) -> Line {
     match parsed {
         Parsed::Wrong(wrong) => Line::Wrong(wrong),
-        Parsed::Is(fields) => {
-            let word = laid(fields);
-            if reads_as(word, fields) {
-                Line::Steps(word, times)
-            } else {
-                Line::Wrong(Wrong::NoStep)
-            }
-        }
+        Parsed::Is(fields) => match encode(fields) {
+            Encoded::Word(word) => Line::Steps(word, times),
+            Encoded::NoWord => Line::Wrong(Wrong::NoStep),
+        },
     }
 }
 
