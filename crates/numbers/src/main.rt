@@ -1,17 +1,17 @@
-// Examples of each number that a caller gets back, and beside each of them one that does not give it
-// (01, "Numbers a caller gets back"). They stand on standard input, a line each: the words, which begin with the number that the
-// line is about, and behind a colon the parts, divided by semicolons. A part is a name and its numbers:
+// Examples of each number that a step, the start and the unplug question give, and beside each of them one that does not give it
+// (01, "Numbers a caller gets back", 1 to 10 and 12). They stand on standard input, a line each: the words, which begin with the
+// number that the line is about, and behind a colon the parts, divided by semicolons. A part is a name and its numbers, 0 where they
+// are left out, in hexadecimal digits behind 0x. These give a state, each once, from a fresh run whose first boxes are 0, 1 and 2:
 //
 //     listed COUNT · change PLACE ADDED REMOVED · kept ADDED REMOVED · stopped DEVICES · device DEVICE ADDED REMOVED T
-//     round TABLET ROUND · asks TABLET ROUND ADDED REMOVED T ANSWERED · free SLOTS
-//     request SLOT FROM TO ROUND T · answer SLOT FROM TO ROUND T · commit SLOT FROM TO
+//     round TABLET ROUND, or asks TABLET ROUND ADDED REMOVED T ANSWERED · free SLOTS
+//     request SLOT FROM TO ROUND T, or answer SLOT FROM TO ROUND T, or commit SLOT FROM TO
 //
-// change a fresh run whose first boxes are 0, 1 and 2, so that states are shown too that no tape reaches; and
+// so that 1, 2 and 9 are shown too, which no tape from a fresh start reaches; and the last part asks what is printed:
 //
 //     ask TABLET ADDED REMOVED · advance TABLET · deliver SLOT · lose SLOT · repeat SLOT · stop DEVICE · unplug BOX · start BOXES
-//
-// print what comes back.
 use crate::states::Given;
+use crate::states::PARTS;
 use crate::text::Part;
 use libc::STDIN_FILENO;
 
@@ -28,12 +28,12 @@ struct Turn {
 
 fn nothing_given() -> Given {
     let none = text::no_part();
-    [none; 8]
+    [none; PARTS]
 }
 
 fn with_part(mut given: Given, part: Part) -> Given {
     let place = states::place_of(part.name);
-    if place < 8 {
+    if place < PARTS {
         given[place] = part;
     } else {
         shown::show(given, part);

@@ -34,7 +34,7 @@ const FREE: usize = 6;
 
 const MESSAGE: usize = 7;
 
-const PARTS: usize = 8;
+pub(crate) const PARTS: usize = 8;
 
 // Names as letters, 8 bits to a letter: `asks`, `request`, `answer`.
 const ASKS: u64 = 0x61736b73;
@@ -72,7 +72,7 @@ const CHANGES: [Config; 6] = [
 ];
 
 // The parts that an example gives of its state, each at its place; one that is not given has no name.
-pub(crate) type Given = [Part; 8];
+pub(crate) type Given = [Part; PARTS];
 
 // The place of the part with this name, or their number where none has it.
 pub(crate) fn place_of(name: u64) -> usize {

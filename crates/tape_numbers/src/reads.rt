@@ -65,14 +65,19 @@ fn say_row(first: u64, second: u64, third: u64) {
     say(b"\n");
 }
 
+// The bytes of a tape of so many bytes, which a number is.
+fn say_tape(length: usize, number: u64) {
+    say(b"  ");
+    say_hexadecimal(number, std::num::wrapping_add_usize(length, length));
+}
+
 // Reads the tape of so many bytes that a number is into the first places of a row of three.
 pub(crate) fn read(length: usize, number: u64, places: usize) {
+    say_tape(length, number);
     let bytes = bytes_of(at_top(number, length));
     let mut row = [7u64; 3];
     let n = bytes_lent(length, &bytes);
     let k = words_lent(places, &row);
-    say(b"  ");
-    say_hexadecimal(number, std::num::wrapping_add_usize(n, n));
     say_places(k);
     read_into(&bytes[..n], &mut row[..k]);
     say_row(row[0], row[1], row[2]);
@@ -89,16 +94,20 @@ fn long_tape(size: usize, first: u8) -> [u8; 4097]
     bytes
 }
 
-// Reads such a tape into the first places of a row of 4,094, of which the first and the last two are shown.
-pub(crate) fn read_long(length: usize, first: u8, places: usize) {
-    let bytes = long_tape(length, first);
-    let mut row = [7u64; 4094];
-    let n = bytes_lent(length, &bytes);
-    let k = words_lent(places, &row);
+fn say_long_tape(size: usize, first: u8) {
     say(b"  ");
-    say_number(n as u64);
+    say_number(size as u64);
     say(b" bytes with first boxes ");
     say_hexadecimal(first as u64, 4);
+}
+
+// Reads such a tape into the first places of a row of 4,094, of which the first and the last two are shown.
+pub(crate) fn read_long(size: usize, first: u8, places: usize) {
+    say_long_tape(size, first);
+    let bytes = long_tape(size, first);
+    let mut row = [7u64; 4094];
+    let n = bytes_lent(size, &bytes);
+    let k = words_lent(places, &row);
     say_places(k);
     read_into(&bytes[..n], &mut row[..k]);
     say_row(row[0], row[4092], row[4093]);

@@ -34,21 +34,25 @@ fn say_buffer(bytes: [u8; 8]) {
     say(b"\n");
 }
 
-// Writes one word into the first bytes of a buffer of eight.
-pub(crate) fn write(first: u16, word: u64, size: usize) {
-    let words = [word];
-    let mut buffer = [0x55u8; 8];
-    let k = bytes_lent(size, &buffer);
+fn say_word(first: u16, word: u64) {
     say(b"  ");
     say_hexadecimal(first as u64, 4);
     say(b" ");
     say_hexadecimal(word, 16);
+}
+
+// Writes one word into the first bytes of a buffer of eight.
+pub(crate) fn write(first: u16, word: u64, size: usize) {
+    say_word(first, word);
+    let words = [word];
+    let mut buffer = [0x55u8; 8];
+    let k = bytes_lent(size, &buffer);
     say_size(k);
     say_written(tape::write_tape(first, &words, &mut buffer[..k]));
     say_buffer(buffer);
 }
 
-// So many words: Stop of device 0, and as the last one this.
+// So many words: Stop of device 0 in each, and this as the last one.
 fn long_row(count: usize, last: u64) -> [u64; 4094]
     ensures { λ r. ⌜ 4094 ≡ length r ⌝ }
 {
@@ -57,18 +61,22 @@ fn long_row(count: usize, last: u64) -> [u64; 4094]
     words
 }
 
+fn say_long_row(count: usize, last: u64) {
+    say(b"  ");
+    say_number(count as u64);
+    say(b" words with last ");
+    say_hexadecimal(last, 16);
+}
+
 // Writes such words into the first bytes of a buffer of 4,097, of which the first four and the last four are shown.
-pub(crate) fn write_long(first: u16, count: usize, last: u64, size: usize) {
+pub(crate) fn write_long(count: usize, last: u64, size: usize) {
+    say_long_row(count, last);
     let words = long_row(count, last);
     let mut buffer = [0x55u8; 4097];
     let n = words_lent(count, &words);
     let k = bytes_lent(size, &buffer);
-    say(b"  ");
-    say_number(n as u64);
-    say(b" words with last ");
-    say_hexadecimal(last, 16);
     say_size(k);
-    say_written(tape::write_tape(first, &words[..n], &mut buffer[..k]));
+    say_written(tape::write_tape(0x0007, &words[..n], &mut buffer[..k]));
     say_buffer([
         buffer[0],
         buffer[1],

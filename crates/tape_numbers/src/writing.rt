@@ -39,8 +39,8 @@ pub(crate) fn bits_below() {
 
 pub(crate) fn longest() {
     say(b"11 write a tape over 4096 bytes, and one of 4096\n");
-    write_long(0x0007, 4094, STOP, 4097);
-    write_long(0x0007, 4093, STOP, 4097);
+    write_long(4094, STOP, 4097);
+    write_long(4093, STOP, 4097);
 }
 
 pub(crate) fn buffers() {
@@ -52,14 +52,14 @@ pub(crate) fn buffers() {
 
 pub(crate) fn long_buffers() {
     say(b"16 write 4096 bytes into a buffer of one byte less, and of as many\n");
-    write_long(0x0007, 4093, STOP, 4095);
-    write_long(0x0007, 4093, STOP, 4096);
+    write_long(4093, STOP, 4095);
+    write_long(4093, STOP, 4096);
 }
 
 pub(crate) fn first_of_two() {
     say(b"12 goes before 14, 14 before 11, 11 before 16, 14 before 16\n");
     write(0, KIND_6, 0);
-    write_long(0x0007, 4094, KIND_6, 0);
-    write_long(0x0007, 4094, STOP, 0);
+    write_long(4094, KIND_6, 0);
+    write_long(4094, STOP, 0);
     write(0x0007, KIND_6, 0);
 }
