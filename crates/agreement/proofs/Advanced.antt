@@ -16,7 +16,7 @@ use Rattle.agreement.proofs.Order.{at-most-of-eq, contained-refl, conta
 use Rattle.agreement.proofs.Below.{below-refl, below-trans}
 use Rattle.agreement.proofs.Frames.{Every, every-cons, on-tablet}
 use Rattle.agreement.proofs.Chain.{chain-map}
-use Rattle.agreement.proofs.Insertion.{Grown, insert}
+use Rattle.agreement.proofs.Insertion.{Extended, insert}
 use Rattle.agreement.proofs.Shown.{Kept, kept-book, shown-core}
 use Rattle.agreement.proofs.Merging.{OnChain, Held, on-chain-more, held-more, held-parent, asked-own, asked-held}
 use Rattle.agreement.proofs.Evidence.{AnsweredBy, CommitEvidence, evidence-meets, evidence-held}
@@ -192,7 +192,7 @@ module _ {𝓢 : Setting} where
       evidence : CommitEvidence (s .network .answers) (st .contents)
       evidence = commit-when-steady (I .network) (was .phase) (st .steady) (st .candidates) (st .allowed)
 
-      G : Grown f (CommitEvidence (s .network .answers)) (st .contents) (I .elements)
+      G : Extended f (CommitEvidence (s .network .answers)) (st .contents) (I .elements)
       G = insert (evidence-meets (I .network .ordered) evidence) evidence (I .network .chain) (was .held .on .at) (was .held .on .among) (held-parent (was .held))
 
       more : (z : Contents 𝓢) → Among z (I .elements) → Among z (G .out)

@@ -83,7 +83,7 @@ module _ {𝓢 : Setting} where
       queries′ x (inr m) h = o .queries x m h
 
   -- The chain with s in it.
-  pub record Grown (f : Contents 𝓢) (Evidence : Contents 𝓢 → Type 0) (s : Contents 𝓢) (l : List (Contents 𝓢)) : Type 0 where
+  pub record Extended (f : Contents 𝓢) (Evidence : Contents 𝓢 → Type 0) (s : Contents 𝓢) (l : List (Contents 𝓢)) : Type 0 where
     pub out : List (Contents 𝓢)
     pub chain : Chain f Evidence out
     pub inserted : Inserted s l out
@@ -209,10 +209,10 @@ module _ {𝓢 : Setting} where
     walk meets es (link ey oy c) z (inr m) p = walk-step meets es ey oy c (walk meets es c z m p)
 
     pub insert : {l : List (Contents 𝓢)} → Meets Evidence s → Evidence s → Chain f Evidence l → (z : Contents 𝓢) → Among z l → Parent s z
-        → Grown f Evidence s l
+        → Extended f Evidence s l
     insert {l} meets es c z m p = finish (walk meets es c z m p)
       where
-        finish : Over s l ⊎ Placed f Evidence s l → Grown f Evidence s l
+        finish : Over s l ⊎ Placed f Evidence s l → Extended f Evidence s l
         finish (inl o) = record {
           out = s ∷ l;
           chain = link es o c;

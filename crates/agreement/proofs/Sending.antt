@@ -13,7 +13,7 @@ use Rattle.agreement.specs.Steps.{OnTablet, with-request, with-answer, w
 use Rattle.agreement.proofs.Below.{below-refl, below-trans}
 use Rattle.agreement.proofs.Frames.{every-cons, on-tablet}
 use Rattle.agreement.proofs.Chain.{chain-map}
-use Rattle.agreement.proofs.Insertion.{Grown}
+use Rattle.agreement.proofs.Insertion.{Extended}
 use Rattle.agreement.proofs.Merging.{OnChain, Held, on-chain-more, held-more}
 use Rattle.agreement.proofs.Evidence.{CommitEvidence, Ordered, evidence-more}
 use Rattle.agreement.proofs.Invariant.{GoodAnswer, GoodNetwork, FloorFits, SinceAsk, GoodAsking, GoodTablet, Invariant}
@@ -91,7 +91,7 @@ module _ {𝓢 : Setting} where
 
   -- A commit is sent, and stands in the chain.
   pub network-commit : {f : Contents 𝓢} {l : List (Contents 𝓢)} {n : Network 𝓢} {x : Contents 𝓢} → GoodNetwork f l n
-      → (G : Grown f (CommitEvidence (n .answers)) x l) → GoodNetwork f (G .out) (with-commit n (decide x))
+      → (G : Extended f (CommitEvidence (n .answers)) x l) → GoodNetwork f (G .out) (with-commit n (decide x))
   network-commit {f} {l} {n} {x} N G = record {
     chain = G .chain;
     boxes = λ r. held-more more (N .boxes r);

@@ -5,9 +5,9 @@ ghost use Prim.Native.Nat.{_<_, _≤_};
 ghost use Rattle.books.specs.Books.{notesPart, ownNotes, noBook, notesInside, configInside, bookInside, joinNotes, joinConfigs, joinBooks, sameNotes, sameConfig};
 ghost use Rattle.books.specs.Queried.{placeOf, outside, joinedWith, everyMajority, askedBoxes, stays};
 
-// Notes as a set: note n has weight 2^n. Books and candidates hold them as one value, which only this crate takes apart.
+// Notes as a set: note n has weight 2^n. Books and candidates hold them as one value, which only this crate takes apart. which only this crate takes apart.
 pub struct Notes {
-    pub set: u64,
+    set: u64,
 }
 
 // How many parts of 64 notes there are.

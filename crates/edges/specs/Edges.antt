@@ -65,15 +65,15 @@ queried listed changes (Asks a) =
 -- a row: boxes added, removed and answered, with the majority's yes or no; a tape, with what reading it comes to; a tape, with the one device that
 -- its steps leave stopped; first boxes, steps, the latest first, a tablet and a set of changes, with what the tablet then queries;
 -- or first boxes, a step and the steps before it, the latest first, with the step's number
-pub data Row : Type 0 where
-  a-majority : ℕ → ℕ → ℕ → Bool → Row
-  a-tape : List ℕ → Result → Row
-  a-stop : List ℕ → ℕ → Row
-  a-query : ℕ → List Step → ℕ → ℕ → Query → Row
-  a-run : ℕ → Step → List Step → ℕ → Row
+pub data Edge : Type 0 where
+  a-majority : ℕ → ℕ → ℕ → Bool → Edge
+  a-tape : List ℕ → Result → Edge
+  a-stop : List ℕ → ℕ → Edge
+  a-query : ℕ → List Step → ℕ → ℕ → Query → Edge
+  a-run : ℕ → Step → List Step → ℕ → Edge
 
 -- what a row says
-abbrev pub Says : Row → Type 0
+abbrev pub Says : Edge → Type 0
 Says (a-majority added removed answered holds) = majorityOf added removed answered ≡ holds
 Says (a-tape tape outcome) = readTape tape ≡ outcome
 Says (a-stop tape device) = stateAfter tape .stopped ≡ only device
@@ -93,7 +93,7 @@ ownConfig = record { answered = 0x0001; config = record { added = 0x0001; remove
 abbrev pub withRemoval : Query
 withRemoval = record { answered = 0x0001; config = record { added = 0x0001; removed = 0x0001 }; members = 0x0000; majority = false }
 
-abbrev pub edges : List Row
+abbrev pub edges : List Edge
 edges =
     -- "1 of 2 members is no majority, 2 of 3 is, 0 of 0 is not"
     a-majority 0x0003 0x0000 0x0001 false
@@ -118,7 +118,7 @@ edges =
     ∷ []
 
 -- every row holds
-abbrev pub Hold : List Row → Type 0
+abbrev pub Hold : List Edge → Type 0
 Hold [] = Unit {0}
 Hold (row ∷ rows) = Says row × Hold rows
 

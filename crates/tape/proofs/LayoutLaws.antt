@@ -11,7 +11,7 @@ use lib.Dec.{leb, eqb}
 use borrow.Author.Tests.{le-leb, leb-true, eqb-true}
 use Rattle.tape.specs.Bits.{num, bits, fieldAt}
 use Rattle.tape.specs.Edition.{Field, span, stepWidth, fits, every, Edition, firstEdition, editionOf}
-use Rattle.tape.specs.Layout.{fields, width, fieldsAllowed, legal, numbers, fieldsOf, noField, row}
+use Rattle.tape.specs.Layout.{fields, width, fieldsAllowed, legal, numbers, fieldsOf, noField, layoutOf}
 use Rattle.tape.specs.declared.edition.Edition.{Edition as Named}
 use Rattle.tape.specs.declared.edition.Edition.the-variants as E
 use Rattle.tape.proofs.BitLaws.{length-bits, num-take-lt, drop-take}
@@ -77,9 +77,9 @@ module _ (ed : Edition) where
       go (x ∷ xs) h = omega arith
 
   -- where the second, the third and the fourth field begin, in the word
-  pub row-places : (k : ℕ) → (3 + row (fields ed k) .first ≡ 3 + span (take 1 (fields ed k)))
-      × (3 + row (fields ed k) .first + row (fields ed k) .second ≡ 3 + span (take 2 (fields ed k)))
-      × (3 + row (fields ed k) .first + row (fields ed k) .second + row (fields ed k) .third ≡ 3 + span (take 3 (fields ed k)))
+  pub row-places : (k : ℕ) → (3 + layoutOf (fields ed k) .first ≡ 3 + span (take 1 (fields ed k)))
+      × (3 + layoutOf (fields ed k) .first + layoutOf (fields ed k) .second ≡ 3 + span (take 2 (fields ed k)))
+      × (3 + layoutOf (fields ed k) .first + layoutOf (fields ed k) .second + layoutOf (fields ed k) .third ≡ 3 + span (take 3 (fields ed k)))
       × (3 + span (take 3 (fields ed k)) ≤ 64)
   row-places k =
       let xs = fields ed k in
@@ -126,7 +126,7 @@ in-full (x ∷ xs) f h =
     let m : num (take (x .width) f) ≤ x .most = omega (arith, num-take-lt f (x .width)) in
     simp (le-leb _ _ l, le-leb _ _ m) (in-full xs (drop (x .width) f) (a .1))
 
-in-plain : (xs : List Field) (f : List Bool) → plain xs ≡ true → fieldsAllowed xs f ≡ leb (num (take (row xs .first) f)) (row xs .most)
+in-plain : (xs : List Field) (f : List Bool) → plain xs ≡ true → fieldsAllowed xs f ≡ leb (num (take (layoutOf xs .first) f)) (layoutOf xs .most)
 unfolding plain fieldsAllowed num
 in-plain [] f h = refl
 in-plain (x ∷ xs) f h =
@@ -144,19 +144,19 @@ rows-plain : (e : Named) (k : ℕ) → plain (fields (editionOf e) k) ≡ true
 unfolding plain allFull full
 rows-plain E.First k = every-at plain refl (firstEdition .rows) refl k
 
-first-fits : (xs : List Field) → stepWidth xs ≢ 0 → 3 + row xs .first ≤ stepWidth xs
+first-fits : (xs : List Field) → stepWidth xs ≢ 0 → 3 + layoutOf xs .first ≤ stepWidth xs
 first-fits [] h = absurd (h refl)
 first-fits (x ∷ xs) h = omega arith
 
 -- a step word of such an edition is judged by its first field
 pub legal-first : (e : Named) (x k : ℕ) → k ≡ num (take 3 (bits 64 x)) → width (editionOf e) k ≢ 0
-    → leb (fieldAt x 3 (row (fields (editionOf e) k) .first)) (row (fields (editionOf e) k) .most) ≡ legal (editionOf e) (take (width (editionOf e) k) (bits 64 x))
+    → leb (fieldAt x 3 (layoutOf (fields (editionOf e) k) .first)) (layoutOf (fields (editionOf e) k) .most) ≡ legal (editionOf e) (take (width (editionOf e) k) (bits 64 x))
 unfolding legal
 legal-first edition x k e h =
     let ed = editionOf edition in
     let b = bits 64 x in
     let w = width ed k in
-    let r = row (fields ed k) in
+    let r = layoutOf (fields ed k) in
     let l = width-least ed k h in
     let m = first-fits (fields ed k) h in
     let s : w ≡ 3 + (w - 3) = omega arith in

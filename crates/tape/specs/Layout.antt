@@ -53,9 +53,9 @@ layoutWith a b c d m = record { width = 3 + a + b + c + d; first = a; second = b
 abbrev pub noField : Field
 noField = field 0 0 0
 
--- a row of the table as such a layout
-abbrev pub row : List Field → Layout
-row xs = record {
+-- the fields of a kind as such a layout
+abbrev pub layoutOf : List Field → Layout
+layoutOf xs = record {
   width = stepWidth xs;
   first = getD xs 0 noField .width;
   second = getD xs 1 noField .width;

@@ -4,7 +4,7 @@ ghost use Prim.Native.Nat.{_+_, _≤_};
 ghost use lib.ListN.{take};
 ghost use Rattle.tape.specs.Bits.{num, bits};
 ghost use Rattle.tape.specs.Edition.{editionOf, firstEdition};
-ghost use Rattle.tape.specs.Layout.{fields, layoutWith, row, width, legal};
+ghost use Rattle.tape.specs.Layout.{fields, layoutWith, layoutOf, width, legal};
 ghost use Rattle.tape.specs.Writing.{wide};
 use crate::bits::field;
 use crate::bits::top;
@@ -38,7 +38,7 @@ fn layout_with(first: usize, second: usize, third: usize, fourth: usize, most: u
 
 // The layout of a kind in the first edition.
 fn first_layout(kind: u64) -> Layout
-    ensures { λ r. ⌜ r ≡ row (fields firstEdition kind) ⌝ }
+    ensures { λ r. ⌜ r ≡ layoutOf (fields firstEdition kind) ⌝ }
 {
     match kind {
         // Ask: tablet, own notes, added, removed.
@@ -65,7 +65,7 @@ fn first_layout(kind: u64) -> Layout
 
 // The layout of a kind.
 pub(crate) fn layout_of(edition: Edition, kind: u64) -> Layout
-    ensures { λ r. ⌜ r ≡ row (fields (editionOf edition) kind) ⌝ }
+    ensures { λ r. ⌜ r ≡ layoutOf (fields (editionOf edition) kind) ⌝ }
 {
     match edition {
         Edition::First => first_layout(kind),

@@ -6,7 +6,7 @@ use Prim.Native.Nat.{ℕ, _+_, _≤_}
 use lib.ListN.{take, getD}
 use Rattle.tape.specs.Bits.{num, bits, fieldAt}
 use Rattle.tape.specs.Edition.{firstEdition}
-use Rattle.tape.specs.Layout.{fields, row, fieldsOf, fieldsIn}
+use Rattle.tape.specs.Layout.{fields, layoutOf, fieldsOf, fieldsIn}
 use Rattle.tape.specs.declared.Fields.{Fields}
 use Rattle.tape.specs.declared.layout.Layout.{Layout}
 use Rattle.tape.proofs.WordLaws.{field-top}
@@ -18,13 +18,13 @@ make : ℕ → ℕ → ℕ → ℕ → ℕ → Fields
 make k a b c d = record { kind = k; first = a; second = b; third = c; fourth = d }
 
 -- the fields, cut by the layout of the word's kind
-fields-are : (x k : ℕ) (l : Layout) (a b c d : ℕ) → k ≡ fieldAt x 0 3 → l ≡ row (fields firstEdition k) → a ≡ fieldAt x 3 (l .first) → b ≡ fieldAt x (3 + l .first) (l .second)
+fields-are : (x k : ℕ) (l : Layout) (a b c d : ℕ) → k ≡ fieldAt x 0 3 → l ≡ layoutOf (fields firstEdition k) → a ≡ fieldAt x 3 (l .first) → b ≡ fieldAt x (3 + l .first) (l .second)
     → c ≡ fieldAt x (3 + l .first + l .second) (l .third) → d ≡ fieldAt x (3 + l .first + l .second + l .third) (l .fourth) → make k a b c d ≡ fieldsIn firstEdition x
 unfolding make fieldsIn fieldsOf
 fields-are x k l a b c d e f ha hb hc hd =
     let n : k ≡ num (take 3 (bits 64 x)) = e ∙ field-top x 3 (omega arith) in
     let p = row-places firstEdition k in
-    let r = row (fields firstEdition k) in
+    let r = layoutOf (fields firstEdition k) in
     let a₁ = ha ∙ ap (λ (m : Layout). fieldAt x 3 (m .first)) f ∙ field-number firstEdition x k 3 0 n refl in
     let b₁ = hb ∙ ap (λ (m : Layout). fieldAt x (3 + m .first) (m .second)) f ∙ field-number firstEdition x k (3 + r .first) 1 n (p .0) in
     let c₁ = hc ∙ ap (λ (m : Layout). fieldAt x (3 + m .first + m .second) (m .third)) f ∙ field-number firstEdition x k (3 + r .first + r .second) 2 n (p .1) in
@@ -32,7 +32,7 @@ fields-are x k l a b c d e f ha hb hc hd =
     ap₂ (λ u v. make u v b c d) n a₁ ∙ ap₂ (λ u v. make (getD (fieldsOf firstEdition x) 0 0) (getD (fieldsOf firstEdition x) 1 0) u v d) b₁ c₁
     ∙ ap (make (getD (fieldsOf firstEdition x) 0 0) (getD (fieldsOf firstEdition x) 1 0) (getD (fieldsOf firstEdition x) 2 0) (getD (fieldsOf firstEdition x) 3 0)) d₁
 
-small : (k : ℕ) (l : Layout) → l ≡ row (fields firstEdition k) → 3 + l .first + l .second + l .third ≤ 64
+small : (k : ℕ) (l : Layout) → l ≡ layoutOf (fields firstEdition k) → 3 + l .first + l .second + l .third ≤ 64
 small k l e = let p = row-places firstEdition k in subst (λ (m : Layout). 3 + m .first + m .second + m .third ≤ 64) (sym e) (omega arith)
 
 field-requires : tie.Need-field-requires

@@ -6,48 +6,48 @@ use Prim.Native.Nat.{ℕ, _≤_}
 use mathlib.Core.List.{[]}
 use lib.ListN.{List·getD-eq-default}
 use Rattle.tape.specs.Edition.{firstEdition}
-use Rattle.tape.specs.Layout.{fields, row}
+use Rattle.tape.specs.Layout.{fields, layoutOf}
 use Rattle.tape.proofs.layout.first_layout.Statement.{statement}
 use Rattle.tape.proofs.layout.first_layout.Tie as tie
 
-none : (k : ℕ) → 6 ≤ k → row [] ≡ row (fields firstEdition k)
-none k h = ap row (sym (List·getD-eq-default (firstEdition .rows) [] h))
+none : (k : ℕ) → 6 ≤ k → layoutOf [] ≡ layoutOf (fields firstEdition k)
+none k h = ap layoutOf (sym (List·getD-eq-default (firstEdition .rows) [] h))
 
 layout-with-requires : tie.Need-layout-with-requires
 layout-with-requires c κs = search needs
 
 returns : tie.Need-returns
-returns c = c .layout-with .ensures ∙ sym (ap (λ k. row (fields firstEdition k)) (c .before .match .keys1))
+returns c = c .layout-with .ensures ∙ sym (ap (λ k. layoutOf (fields firstEdition k)) (c .before .match .keys1))
 
 layout-with-requires-2 : tie.Need-layout-with-requires-2
 layout-with-requires-2 c κs = search needs
 
 returns-2 : tie.Need-returns-2
-returns-2 c = c .layout-with2 .ensures ∙ sym (ap (λ k. row (fields firstEdition k)) (c .before .match .keys2))
+returns-2 c = c .layout-with2 .ensures ∙ sym (ap (λ k. layoutOf (fields firstEdition k)) (c .before .match .keys2))
 
 layout-with-requires-3 : tie.Need-layout-with-requires-3
 layout-with-requires-3 c κs = search needs
 
 returns-3 : tie.Need-returns-3
-returns-3 c = c .layout-with3 .ensures ∙ sym (ap (λ k. row (fields firstEdition k)) (c .before .match .keys3))
+returns-3 c = c .layout-with3 .ensures ∙ sym (ap (λ k. layoutOf (fields firstEdition k)) (c .before .match .keys3))
 
 layout-with-requires-4 : tie.Need-layout-with-requires-4
 layout-with-requires-4 c κs = search needs
 
 returns-4 : tie.Need-returns-4
-returns-4 c = c .layout-with4 .ensures ∙ sym (ap (λ k. row (fields firstEdition k)) (c .before .match .keys4))
+returns-4 c = c .layout-with4 .ensures ∙ sym (ap (λ k. layoutOf (fields firstEdition k)) (c .before .match .keys4))
 
 layout-with-requires-5 : tie.Need-layout-with-requires-5
 layout-with-requires-5 c κs = search needs
 
 returns-5 : tie.Need-returns-5
-returns-5 c = c .layout-with5 .ensures ∙ sym (ap (λ k. row (fields firstEdition k)) (c .before .match .keys5))
+returns-5 c = c .layout-with5 .ensures ∙ sym (ap (λ k. layoutOf (fields firstEdition k)) (c .before .match .keys5))
 
 layout-with-requires-6 : tie.Need-layout-with-requires-6
 layout-with-requires-6 c κs = search needs
 
 returns-6 : tie.Need-returns-6
-returns-6 c = c .layout-with6 .ensures ∙ sym (ap (λ k. row (fields firstEdition k)) (c .before .match .keys6))
+returns-6 c = c .layout-with6 .ensures ∙ sym (ap (λ k. layoutOf (fields firstEdition k)) (c .before .match .keys6))
 
 returns-7 : tie.Need-returns-7
 returns-7 c =

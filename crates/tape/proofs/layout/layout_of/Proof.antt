@@ -3,13 +3,13 @@ use borrow.Author.Needs.{needs}
 use mathlib.Core.Path.{_≡_, refl, _∙_}
 use Prim.Native.Nat.{ℕ}
 use Rattle.tape.specs.Edition.{firstEdition, editionOf}
-use Rattle.tape.specs.Layout.{fields, row}
+use Rattle.tape.specs.Layout.{fields, layoutOf}
 use Rattle.tape.specs.declared.edition.Edition.{Edition}
 use Rattle.tape.specs.declared.edition.Edition.the-variants.{First}
 use Rattle.tape.proofs.layout.layout_of.Statement.{statement}
 use Rattle.tape.proofs.layout.layout_of.Tie as tie
 
-in-first : (e : Edition) (k : ℕ) → row (fields firstEdition k) ≡ row (fields (editionOf e) k)
+in-first : (e : Edition) (k : ℕ) → layoutOf (fields firstEdition k) ≡ layoutOf (fields (editionOf e) k)
 in-first First k = refl
 
 first-layout-requires : tie.Need-first-layout-requires
