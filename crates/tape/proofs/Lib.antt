@@ -4,6 +4,7 @@ pub mod WordLaws
 pub mod ByteLaws
 pub mod LayLaws
 pub mod LayoutLaws
+pub mod MarkLaws
 pub mod ReadingLaws
 pub mod StepLaws
 pub mod WritingLaws

@@ -19,7 +19,8 @@ use Rattle.tape.specs.declared.reading.Reading.the-variants.{Step, Refus
 use Rattle.tape.proofs.BitLaws.{length-bits, num-inj, num-bits-small, num-zeros, bits-part, cut-append}
 use Rattle.tape.proofs.ByteLaws.{length-bitsOf, drop-bitsOf, bitsOf-pack, bitsOf-inj, bytes-pack}
 use Rattle.tape.proofs.LayoutLaws.{width-least}
-use Rattle.tape.proofs.ReadingLaws.{begins-yes, read-mark, end-good, more-is}
+use Rattle.tape.proofs.MarkLaws.{begins-yes, end-good}
+use Rattle.tape.proofs.ReadingLaws.{read-mark, more-is}
 use Rattle.tape.proofs.StepLaws.{StepIn, EndIn, step-in, end-in, read-step, word-of, step-word, wide-word, length-step}
 use Rattle.tape.proofs.WritingLaws.{all-cons, pad-lt, size-bits, size-least, length-tape, tape-bits, write-good}
 use Rattle.tape.proofs.TapeLaws.{GoodHead, head-good, head-zero, head-there, head-given, read-good}

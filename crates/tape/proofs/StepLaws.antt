@@ -20,7 +20,8 @@ use Rattle.tape.specs.declared.reading.Reading.the-variants.{Step, Refus
 use Rattle.tape.proofs.BitLaws.{length-bits}
 use Rattle.tape.proofs.WordLaws.{word-bits, take-word}
 use Rattle.tape.proofs.LayoutLaws.{cond-has, width-least, width-most}
-use Rattle.tape.proofs.ReadingLaws.{begins-append, begins-is, read-has, read-kind, kind-step, kind-none, step-good, step-bad, Moves, moves, read-mark}
+use Rattle.tape.proofs.MarkLaws.{begins-append, begins-is}
+use Rattle.tape.proofs.ReadingLaws.{read-has, read-kind, kind-step, kind-none, step-good, step-bad, Moves, moves, read-mark}
 
 module _ (ed : Edition) where
   -- the bits of one step

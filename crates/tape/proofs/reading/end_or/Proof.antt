@@ -8,7 +8,7 @@ use Rattle.tape.specs.Bits.{num, bits, fieldAt}
 use Rattle.tape.specs.Edition.{editionOf}
 use Rattle.tape.specs.Reading.{endAt}
 use Rattle.tape.specs.declared.edition.Mark.{Mark}
-use Rattle.tape.proofs.ReadingLaws.{mark-short, mark-other, mark-rest, mark-is}
+use Rattle.tape.proofs.MarkLaws.{mark-short, mark-other, mark-rest, mark-is}
 use Rattle.tape.proofs.reading.end_or.Statement.{statement}
 use Rattle.tape.proofs.reading.end_or.Tie as tie
 

@@ -18,7 +18,8 @@ use Rattle.tape.specs.declared.reading.Reading.the-variants.{Step, Refus
 use Rattle.tape.proofs.ByteLaws.{length-bitsOf}
 use Rattle.tape.proofs.WordLaws.{field-top, take-word}
 use Rattle.tape.proofs.LayoutLaws.{width-most, width-least}
-use Rattle.tape.proofs.ReadingLaws.{begins-short, end-or, step-unmarked, read-short, read-kind, kind-step, kind-none, step-short, step-good, step-bad}
+use Rattle.tape.proofs.MarkLaws.{begins-short}
+use Rattle.tape.proofs.ReadingLaws.{end-or, step-unmarked, read-short, read-kind, kind-step, kind-none, step-short, step-good, step-bad}
 use Rattle.tape.proofs.reading.read_step.Statement.{statement}
 use Rattle.tape.proofs.reading.read_step.Tie as tie
 

@@ -6,7 +6,7 @@ use lib.ListN.{take, drop, length-take, length-drop}
 use Rattle.tape.specs.Bits.{bits}
 use Rattle.tape.proofs.BitLaws.{length-bits}
 use Rattle.tape.proofs.WordLaws.{field-inside}
-use Rattle.tape.proofs.ReadingLaws.{end-long, end-set, end-good}
+use Rattle.tape.proofs.MarkLaws.{end-long, end-set, end-good}
 use Rattle.tape.proofs.reading.tail.Statement.{statement}
 use Rattle.tape.proofs.reading.tail.Tie as tie
 
