@@ -117,13 +117,13 @@ fn show_steps(form: Form, first: u16, words: &[u64]) -> Ended {
     written(&buffer, out, Ended::Well)
 }
 
-// What a refused tape prints: a line in place of the steps, or, where it is listed, a line on standard error.
 fn show_bad(number: u8) -> Ended {
     let mut buffer = io::buffer();
     let out = put_bad(&mut buffer, no_text(), number);
     written(&buffer, out, Ended::Refused)
 }
 
+// What a refused tape prints: a line in place of the steps, or, where it is listed, a line on standard error.
 fn show_refused(form: Form, number: u8) -> Ended {
     match form {
         Form::Played => show_bad(number),
