@@ -133,35 +133,26 @@ fn contents(added: u64, removed: u64, t: u64) -> Contents {
 }
 
 // The six changes, one of which may be given otherwise.
-fn listed(given: Given) -> Listed {
-    let list = given[LISTED];
-    let change = given[CHANGE];
+fn listed(count: u64, change: Part) -> Listed {
     let mut changes = CHANGES;
     if change.name != 0 {
         changes[change.first as usize % 6] = pair(change.second, change.third);
     }
     Listed {
         changes: changes,
-        count: list.first as usize,
+        count: count as usize,
     }
 }
 
 // The book that a run handed back.
-fn kept(given: Given) -> Book {
-    let part = given[KEPT];
+fn kept(part: Part) -> Book {
     if part.name == 0 {
         return book(0x7, 0);
     }
     book(part.first, part.second)
 }
 
-fn stopped(given: Given) -> u32 {
-    let part = given[STOPPED];
-    (part.first % 0x100000000) as u32
-}
-
-fn all_devices(given: Given) -> [Contents; 24] {
-    let part = given[DEVICE];
+fn all_devices(part: Part) -> [Contents; 24] {
     let fresh = contents(0x7, 0, 0);
     let mut devices = [fresh; 24];
     if part.name != 0 {
@@ -193,8 +184,7 @@ fn tablet(round: u64, phase: Phase) -> Tablet {
     }
 }
 
-fn all_tablets(given: Given) -> [Tablet; 8] {
-    let part = given[TABLET];
+fn all_tablets(part: Part) -> [Tablet; 8] {
     let fresh = tablet(0, Phase::Idle);
     let mut tablets = [fresh; 8];
     tablets[part.first as usize % 8] = tablet(part.second, phase(part));
@@ -249,9 +239,7 @@ fn slots_with_free(free: usize) -> [Slot; 128] {
     slots
 }
 
-fn all_slots(given: Given) -> [Slot; 128] {
-    let free = given[FREE];
-    let part = given[MESSAGE];
+fn all_slots(free: Part, part: Part) -> [Slot; 128] {
     let lowest = if free.name == 0 {
         128
     } else {
@@ -269,16 +257,18 @@ fn all_slots(given: Given) -> [Slot; 128] {
 pub(crate) fn state_of(given: Given) -> Run {
     let started = state::start(0x7);
     let mut run = started.run;
-    let devices = all_devices(given);
-    let tablets = all_tablets(given);
-    let slots = all_slots(given);
-    let listed = listed(given);
-    let kept = kept(given);
+    let devices = all_devices(given[DEVICE]);
+    let tablets = all_tablets(given[TABLET]);
+    let slots = all_slots(given[FREE], given[MESSAGE]);
+    let list = given[LISTED];
+    let stopped = given[STOPPED];
+    let listed = listed(list.first, given[CHANGE]);
+    let kept = kept(given[KEPT]);
     run.devices = devices;
     run.tablets = tablets;
     run.slots = slots;
     run.listed = listed;
     run.kept = kept;
-    run.stopped = stopped(given);
+    run.stopped = (stopped.first % 0x100000000) as u32;
     run
 }

@@ -6,7 +6,6 @@ use devices::Contents;
 use devices::Floor;
 use devices::Letter;
 use devices::Message;
-use devices::Notice;
 use devices::Phase;
 use devices::Tablet;
 use state::Run;
@@ -63,17 +62,15 @@ fn with_letter(sum: u64, kind: u64, letter: Letter, k: usize) -> u64 {
     with_contents(more(sum, head), letter.contents, k)
 }
 
-fn with_notice(sum: u64, kind: u64, notice: Notice, k: usize) -> u64 {
-    let between = ((notice.from as u64) << 8) | notice.to as u64;
-    with_book(more(sum, (kind << 32) | between), notice.book, k)
-}
-
 fn with_message(sum: u64, message: Message, k: usize) -> u64 {
     match message {
         Message::Empty => more(sum, 1),
         Message::Request(letter) => with_letter(sum, 2, letter, k),
         Message::Answer(letter) => with_letter(sum, 3, letter, k),
-        Message::Commit(notice) => with_notice(sum, 4, notice, k),
+        Message::Commit(notice) => {
+            let between = ((notice.from as u64) << 8) | notice.to as u64;
+            with_book(more(more(sum, 4), between), notice.book, k)
+        }
     }
 }
 
