@@ -12,7 +12,7 @@ use borrow.Author.Tests.{le-leb, leb-true, eqb-true}
 use Rattle.tape.specs.Bits.{num, bits, fieldAt}
 use Rattle.tape.specs.Edition.{Field, span, stepWidth, fits, every, Edition, firstEdition, editionOf}
 use Rattle.tape.specs.Layout.{fields, width, fieldsAllowed, legal, numbers, fieldsOf, noField, layoutOf}
-use Rattle.tape.specs.declared.edition.Edition.{Edition as Named}
+use Rattle.tape.specs.declared.edition.Edition.{Edition as InCode}
 use Rattle.tape.specs.declared.edition.Edition.the-variants as E
 use Rattle.tape.proofs.BitLaws.{length-bits, num-take-lt, drop-take}
 use Rattle.tape.proofs.WordLaws.{field-inside}
@@ -140,7 +140,7 @@ in-plain (x ∷ xs) f h =
     go false = refl
 
 -- the fields of the code's editions are such
-rows-plain : (e : Named) (k : ℕ) → plain (fields (editionOf e) k) ≡ true
+rows-plain : (e : InCode) (k : ℕ) → plain (fields (editionOf e) k) ≡ true
 unfolding plain allFull full
 rows-plain E.First k = every-at plain refl (firstEdition .rows) refl k
 
@@ -149,7 +149,7 @@ first-fits [] h = absurd (h refl)
 first-fits (x ∷ xs) h = omega arith
 
 -- a step word of such an edition is judged by its first field
-pub legal-first : (e : Named) (x k : ℕ) → k ≡ num (take 3 (bits 64 x)) → width (editionOf e) k ≢ 0
+pub legal-first : (e : InCode) (x k : ℕ) → k ≡ num (take 3 (bits 64 x)) → width (editionOf e) k ≢ 0
     → leb (fieldAt x 3 (layoutOf (fields (editionOf e) k) .first)) (layoutOf (fields (editionOf e) k) .most) ≡ legal (editionOf e) (take (width (editionOf e) k) (bits 64 x))
 unfolding legal
 legal-first edition x k e h =

@@ -14,7 +14,7 @@ use types.Run.{OneOf}
 use denote.Enum.Declared.{tagOf}
 use Rattle.tape.specs.Bits.{bit, num, bits, word, Ahead}
 use Rattle.tape.specs.Edition.{Edition, firstEdition, editionOf}
-use Rattle.tape.specs.declared.edition.Edition.{Edition as Named}
+use Rattle.tape.specs.declared.edition.Edition.{Edition as InCode}
 use Rattle.tape.specs.declared.edition.Edition.the-variants as E
 use Rattle.tape.specs.Layout.{width, legal}
 use Rattle.tape.specs.Reading.{stepAt, kindAt, endAt, begins, endOr, readAt, Result, given, refused, more, onward, readFrom}
@@ -113,7 +113,7 @@ module _ (ed : Edition) (t : List Bool) (p x left : ℕ) (a : Ahead t p x) (q : 
       go false e = ap (λ b. cond b end (Refused number)) (same ∙ e) ∙ sym (h e)
 
 -- no step of the code's editions begins with the end mark
-unmarked : (e : Named) (f : List Bool) → width (editionOf e) (num (take 3 f)) ≢ 0 → legal (editionOf e) f ≡ true → begins (editionOf e .mark) f ≡ false
+unmarked : (e : InCode) (f : List Bool) → width (editionOf e) (num (take 3 f)) ≢ 0 → legal (editionOf e) f ≡ true → begins (editionOf e .mark) f ≡ false
 unfolding bit num
 unmarked E.First f n h = go (begins (firstEdition .mark) f) refl
   where
@@ -121,7 +121,7 @@ unmarked E.First f n h = go (begins (firstEdition .mark) f) refl
     go true e = absurd (n (ap (width firstEdition) (begins-is (firstEdition .mark) f e .1)))
     go false e = refl
 
-pub step-unmarked : (e : Named) (t : List Bool) (p k : ℕ) → num (take 3 (drop p t)) ≡ k → width (editionOf e) k ≢ 0 → p + width (editionOf e) k ≤ length t
+pub step-unmarked : (e : InCode) (t : List Bool) (p k : ℕ) → num (take 3 (drop p t)) ≡ k → width (editionOf e) k ≢ 0 → p + width (editionOf e) k ≤ length t
     → legal (editionOf e) (take (width (editionOf e) k) (drop p t)) ≡ true → begins (editionOf e .mark) (drop p t) ≡ false
 step-unmarked e t p k kind n l h =
     let ed = editionOf e in

@@ -10,7 +10,7 @@ use lib.Dec.{leb, eqb}
 use Rattle.tape.specs.Bits.{num}
 use Rattle.tape.specs.declared.edition.Mark.{Mark}
 use Rattle.tape.specs.declared.edition.Head.{Head}
-use Rattle.tape.specs.declared.edition.Edition.{Edition as Named}
+use Rattle.tape.specs.declared.edition.Edition.{Edition as InCode}
 use Rattle.tape.specs.declared.edition.Edition.the-variants as E
 
 -- a field: how many bits it has, and the numbers it may hold
@@ -96,7 +96,7 @@ firstEdition = record {
 -- ---- As the code has it
 
 -- the edition of each case of the code's enum
-abbrev pub editionOf : Named → Edition
+abbrev pub editionOf : InCode → Edition
 editionOf E.First = firstEdition
 
 -- the end mark: its kind, the bits behind that, and the whole of it

@@ -8,7 +8,7 @@ pub(crate) enum Encoded {
 }
 
 // The fields at their places, most significant bit first (01, "The tape").
-fn laid(f: Fields) -> u64 {
+fn placed(f: Fields) -> u64 {
     let kind = f.kind;
     match kind {
         0 => (f.first << 58) | (f.second << 50) | (f.third << 34) | (f.fourth << 18),
@@ -22,7 +22,7 @@ fn laid(f: Fields) -> u64 {
 pub(crate) fn encode(f: Fields) -> Encoded
     ensures { λ r. ⌜ ReadAs r f ⌝ }
 {
-    let word = laid(f);
+    let word = placed(f);
     let g = tape::fields_of(word);
     if g.kind != f.kind {
         return Encoded::NoWord;

@@ -5,8 +5,8 @@ use borrow.Author.Needs.{needs}
 use Rattle.text_form.proofs.encoded.encode.Statement.{statement}
 use Rattle.text_form.proofs.encoded.encode.Tie as tie
 
-laid-requires : tie.Need-laid-requires
-laid-requires c κs = search needs
+placed-requires : tie.Need-placed-requires
+placed-requires c κs = search needs
 
 fields-of-requires : tie.Need-fields-of-requires
 fields-of-requires c κs = search needs
@@ -39,7 +39,7 @@ pub encode-spec : {M : Type 1} → statement M
 encode-spec =
     tie.close
     (tie.spec
-    laid-requires
+    placed-requires
     fields-of-requires
     returns
     returns-2
