@@ -43,16 +43,21 @@ fn say_state(same: bool) {
     }
 }
 
-// A step of a run, and of a refused one whether it hands back the very state.
-fn show_step(run: Run, step: Step) {
-    let stepped = parlour::step(run, step);
-    let outcome = stepped.outcome;
+// An outcome, and of a refusal whether it hands back the very state: the sums of the states before and after.
+fn say_outcome(outcome: Outcome, before: u64, after: u64) {
     let number = devices::number_of(outcome);
     say_number(number as u64);
     say_values(outcome);
     if number != 0 {
-        say_state(crate::sums::sum_of(run) == crate::sums::sum_of(stepped.run));
+        say_state(before == after);
     }
+}
+
+fn show_step(run: Run, step: Step) {
+    let before = crate::sums::sum_of(run);
+    let stepped = parlour::step(run, step);
+    let outcome = stepped.outcome;
+    say_outcome(outcome, before, crate::sums::sum_of(stepped.run));
 }
 
 fn show_start(first: u16) {
@@ -61,13 +66,16 @@ fn show_start(first: u16) {
     say_number(devices::number_of(outcome) as u64);
 }
 
-fn show_unplug(run: Run, number: u8) {
-    let answer = parlour::may_unplug(run, number);
+fn say_unplug(answer: Unplug) {
     match answer {
         Unplug::May => say(b"0 yes"),
         Unplug::MayNot => say(b"0 no"),
         Unplug::Unanswered(n) => say_number(n as u64),
     }
+}
+
+fn show_unplug(given: Given, number: u8) {
+    say_unplug(parlour::may_unplug(state_of(given), number));
 }
 
 // The step that a part names, if it names one.
@@ -120,7 +128,7 @@ pub(crate) fn show(given: Given, part: Part) {
         // `start`
         0x7374617274 => show_start(two_bytes(part.first)),
         // `unplug`
-        0x756e706c7567 => show_unplug(state_of(given), byte(part.first)),
+        0x756e706c7567 => show_unplug(given, byte(part.first)),
         _ => show_named(given, part),
     }
     say(b"\n");

@@ -254,9 +254,8 @@ fn all_slots(free: Part, part: Part) -> [Slot; 128] {
     slots
 }
 
+// With the first boxes 0, 1 and 2, as where nothing else is given.
 pub(crate) fn state_of(given: Given) -> Run {
-    let started = state::start(0x7);
-    let mut run = started.run;
     let devices = all_devices(given[DEVICE]);
     let tablets = all_tablets(given[TABLET]);
     let slots = all_slots(given[FREE], given[MESSAGE]);
@@ -264,11 +263,13 @@ pub(crate) fn state_of(given: Given) -> Run {
     let stopped = given[STOPPED];
     let listed = listed(list.first, given[CHANGE]);
     let kept = kept(given[KEPT]);
-    run.devices = devices;
-    run.tablets = tablets;
-    run.slots = slots;
-    run.listed = listed;
-    run.kept = kept;
-    run.stopped = (stopped.first % 0x100000000) as u32;
-    run
+    Run {
+        devices: devices,
+        tablets: tablets,
+        slots: slots,
+        listed: listed,
+        stopped: (stopped.first % 0x100000000) as u32,
+        kept: kept,
+        first: 0x7,
+    }
 }
