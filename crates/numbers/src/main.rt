@@ -10,15 +10,12 @@
 // so that 1, 2 and 9 are shown too, which no tape from a fresh start reaches; and the last part asks what is printed:
 //
 //     ask TABLET ADDED REMOVED · advance TABLET · deliver SLOT · lose SLOT · repeat SLOT · stop DEVICE · unplug BOX · start BOXES
-use crate::states::Given;
-use crate::states::PARTS;
-use crate::text::Part;
+use given::Given;
+use given::PARTS;
+use given::Part;
 use libc::STDIN_FILENO;
 
 mod shown;
-mod states;
-mod sums;
-mod text;
 
 // What an example gives so far, and the place in the text.
 struct Turn {
@@ -27,12 +24,12 @@ struct Turn {
 }
 
 fn nothing_given() -> Given {
-    let none = text::no_part();
+    let none = given::no_part();
     [none; PARTS]
 }
 
 fn with_part(mut given: Given, part: Part) -> Given {
-    let place = states::place_of(part.name);
+    let place = given::place_of(part.name);
     if place < PARTS {
         given[place] = part;
     } else {
@@ -44,14 +41,14 @@ fn with_part(mut given: Given, part: Part) -> Given {
 // The piece at a place: words, which begin with a digit, begin an example.
 fn after_piece(text: &[u8], turn: Turn) -> Turn {
     let at = turn.at;
-    if text::byte_at(text, at) <= b'9' {
+    if given::byte_at(text, at) <= b'9' {
         let none = nothing_given();
         return Turn {
             given: none,
-            at: text::say_words(text, at),
+            at: shown::say_words(text, at),
         };
     }
-    let part = text::part_at(text, at);
+    let part = given::part_at(text, at);
     let before = turn.given;
     let given = with_part(before, part);
     Turn {

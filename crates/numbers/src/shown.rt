@@ -1,12 +1,11 @@
 // What a step, the start and the unplug question answer, behind the words of an example.
-use crate::states::Given;
-use crate::states::pair;
-use crate::states::state_of;
-use crate::text::Part;
-use crate::text::byte;
-use crate::text::two_bytes;
 use devices::Outcome;
 use devices::Step;
+use given::Given;
+use given::Part;
+use given::byte;
+use given::pair;
+use given::state_of;
 use libc::STDOUT_FILENO;
 use parlour::Unplug;
 use state::Run;
@@ -17,6 +16,18 @@ pub(crate) fn say(text: &[u8]) {
 
 pub(crate) fn say_number(number: u64) {
     io::print_decimal(STDOUT_FILENO, number);
+}
+
+// Prints the words of an example, and gives the place of the piece behind them.
+pub(crate) fn say_words(text: &[u8], from: usize) -> usize {
+    let to = given::words_end(text, from);
+    if from <= to {
+        if to <= text.len() {
+            say(&text[from..to]);
+        }
+    }
+    say(b": ");
+    given::behind(text, to)
 }
 
 fn say_round(round: u16) {
@@ -54,10 +65,10 @@ fn say_outcome(outcome: Outcome, before: u64, after: u64) {
 }
 
 fn show_step(run: Run, step: Step) {
-    let before = crate::sums::sum_of(run);
+    let before = given::sum_of(run);
     let stepped = parlour::step(run, step);
     let outcome = stepped.outcome;
-    say_outcome(outcome, before, crate::sums::sum_of(stepped.run));
+    say_outcome(outcome, before, given::sum_of(stepped.run));
 }
 
 fn show_start(first: u16) {
@@ -126,7 +137,7 @@ pub(crate) fn show(given: Given, part: Part) {
     let name = part.name;
     match name {
         // `start`
-        0x7374617274 => show_start(two_bytes(part.first)),
+        0x7374617274 => show_start(given::two_bytes(part.first)),
         // `unplug`
         0x756e706c7567 => show_unplug(given, byte(part.first)),
         _ => show_named(given, part),

@@ -95,7 +95,7 @@ fn with_slot_at(sum: u64, run: Run, i: usize, k: usize) -> u64 {
     with_message(sum, message, k)
 }
 
-pub(crate) fn sum_of(run: Run) -> u64 {
+pub fn sum_of(run: Run) -> u64 {
     let mut sum = more(run.stopped as u64, run.first as u64);
     let mut i: usize = 0;
     // All the slots, once for each part of the notes.

@@ -34,7 +34,7 @@ const FREE: usize = 6;
 
 const MESSAGE: usize = 7;
 
-pub(crate) const PARTS: usize = 8;
+pub const PARTS: usize = 8;
 
 // Names as letters, 8 bits to a letter: `asks`, `request`, `answer`.
 const ASKS: u64 = 0x61736b73;
@@ -72,10 +72,10 @@ const CHANGES: [Config; 6] = [
 ];
 
 // The parts that an example gives of its state, each at its place; one that is not given has no name.
-pub(crate) type Given = [Part; PARTS];
+pub type Given = [Part; PARTS];
 
 // The place of the part with this name, or their number where none has it.
-pub(crate) fn place_of(name: u64) -> usize {
+pub fn place_of(name: u64) -> usize {
     match name {
         // `listed`
         0x6c6973746564 => LISTED,
@@ -105,7 +105,7 @@ fn no_notes() -> Notes {
     none.notes
 }
 
-pub(crate) fn pair(added: u64, removed: u64) -> Config {
+pub fn pair(added: u64, removed: u64) -> Config {
     Config {
         added: two_bytes(added),
         removed: two_bytes(removed),
@@ -255,7 +255,7 @@ fn all_slots(free: Part, part: Part) -> [Slot; 128] {
 }
 
 // With the first boxes 0, 1 and 2, as where nothing else is given.
-pub(crate) fn state_of(given: Given) -> Run {
+pub fn state_of(given: Given) -> Run {
     let devices = all_devices(given[DEVICE]);
     let tablets = all_tablets(given[TABLET]);
     let slots = all_slots(given[FREE], given[MESSAGE]);

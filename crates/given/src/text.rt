@@ -16,15 +16,15 @@ struct Number {
 }
 
 // A part of an example: its name as letters, the numbers behind it, 0 for those not given, and the place behind the part.
-pub(crate) struct Part {
-    pub(crate) name: u64,
-    pub(crate) first: u64,
-    pub(crate) second: u64,
-    pub(crate) third: u64,
-    pub(crate) fourth: u64,
-    pub(crate) fifth: u64,
-    pub(crate) sixth: u64,
-    pub(crate) next: usize,
+pub struct Part {
+    pub name: u64,
+    pub first: u64,
+    pub second: u64,
+    pub third: u64,
+    pub fourth: u64,
+    pub fifth: u64,
+    pub sixth: u64,
+    pub next: usize,
 }
 
 fn digit(byte: u8) -> u64 {
@@ -51,7 +51,7 @@ fn longer(token: Token, byte: u8, next: usize) -> Token {
 }
 
 // The byte at a place, and 0 behind the end.
-pub(crate) fn byte_at(text: &[u8], at: usize) -> u8 {
+pub fn byte_at(text: &[u8], at: usize) -> u8 {
     if at < text.len() { text[at] } else { 0 }
 }
 
@@ -98,14 +98,14 @@ fn number_at(text: &[u8], at: usize) -> Number {
 }
 
 // The place of the next piece: behind the line's end, or behind a `:` or `;` and its space.
-fn behind(text: &[u8], at: usize) -> usize {
+pub fn behind(text: &[u8], at: usize) -> usize {
     if byte_at(text, at) == b'\n' {
         return std::num::wrapping_add_usize(at, 1);
     }
     std::num::wrapping_add_usize(at, 2)
 }
 
-pub(crate) fn no_part() -> Part {
+pub fn no_part() -> Part {
     Part {
         name: 0,
         first: 0,
@@ -118,7 +118,7 @@ pub(crate) fn no_part() -> Part {
     }
 }
 
-pub(crate) fn part_at(text: &[u8], at: usize) -> Part {
+pub fn part_at(text: &[u8], at: usize) -> Part {
     let name = token_at(text, at, b' ');
     let first = number_at(text, name.next);
     let second = number_at(text, first.next);
@@ -138,25 +138,18 @@ pub(crate) fn part_at(text: &[u8], at: usize) -> Part {
     }
 }
 
-// Prints the words of an example, and gives the place of the piece behind them.
-pub(crate) fn say_words(text: &[u8], from: usize) -> usize {
+// The place behind the words of an example.
+pub fn words_end(text: &[u8], from: usize) -> usize {
     let words = token_at(text, from, b':');
-    let to = words.next;
-    if from <= to {
-        if to <= text.len() {
-            crate::shown::say(&text[from..to]);
-        }
-    }
-    crate::shown::say(b": ");
-    behind(text, to)
+    words.next
 }
 
 // The last bits of a number, as many as a byte has.
-pub(crate) fn byte(number: u64) -> u8 {
+pub fn byte(number: u64) -> u8 {
     (number % 256) as u8
 }
 
 // As many as two bytes have.
-pub(crate) fn two_bytes(number: u64) -> u16 {
+pub fn two_bytes(number: u64) -> u16 {
     (number % 65536) as u16
 }

@@ -1,8 +1,8 @@
 -- `sum_of` ends: the measure counts down from more slots than there are, also for eight parts of the notes.
 use Prim.Native.Nat.{_-_}
 use native.Mathlib.Omega.{arith}
-use Rattle.numbers.proofs.sums.sum_of.Statement.{statement}
-use Rattle.numbers.proofs.sums.sum_of.Tie as tie
+use Rattle.given.proofs.sums.sum_of.Statement.{statement}
+use Rattle.given.proofs.sums.sum_of.Tie as tie
 
 abbrev Inv-loop : tie.InvT-loop
 Inv-loop run sum₀ i₀ sum i = Unit {0}

@@ -2,8 +2,8 @@
 use Prim.Native.Nat.{_-_}
 use native.Mathlib.Omega.{arith}
 use lib.ListN.{length}
-use Rattle.numbers.proofs.text.token_at.Statement.{statement}
-use Rattle.numbers.proofs.text.token_at.Tie as tie
+use Rattle.given.proofs.text.token_at.Statement.{statement}
+use Rattle.given.proofs.text.token_at.Tie as tie
 
 abbrev Inv-loop : tie.InvT-loop
 Inv-loop text from stop token₀ at₀ token at = Unit {0}

@@ -4,8 +4,8 @@ use mathlib.Core.Path.{_≡_}
 use native.Mathlib.Omega.{arith}
 use lib.ListN.{length}
 use borrow.Author.Needs.{needs}
-use Rattle.numbers.proofs.states.slots_with_free.Statement.{statement}
-use Rattle.numbers.proofs.states.slots_with_free.Tie as tie
+use Rattle.given.proofs.states.slots_with_free.Statement.{statement}
+use Rattle.given.proofs.states.slots_with_free.Tie as tie
 
 abbrev Inv-loop : tie.InvT-loop
 Inv-loop free filled slots₀ i₀ slots i = length slots ≡ 128
