@@ -18,7 +18,6 @@ statements =
                 λ first words buf x y p q. let e = write-settled first words buf (x .0) (y .0) (x .1) (y .1) p q in ap₂ (λ r after. (r, after)) (e .0) (e .1);
             is-step = λ word. equation-settles _;
             fields-of = λ word. equation-settles _;
-            field = λ word from width. equation-settles _;
           };
       any-edition =
           λ ed. record {

@@ -7,7 +7,7 @@ use mathlib.Core.List.{List, _++_}
 use mathlib.Core.Bool.{Bool, true}
 use lib.ListN.{length, take, drop}
 use Rattle.sets.specs.Settles.{Settles}
-use Rattle.tape.specs.Bits.{num, bitsOf, fieldAt, Bytes}
+use Rattle.tape.specs.Bits.{num, bitsOf, Bytes}
 use Rattle.tape.specs.Edition.{Edition, firstEdition}
 use Rattle.tape.specs.Layout.{fieldsIn}
 use Rattle.tape.specs.Reading.{given, readIn, readTape, firstBoxes}
@@ -27,7 +27,6 @@ pub record Settled : Type 0 where
   pub write-tape : (first : ℕ) (words buf : List ℕ) → Settles (λ (r : Written × List ℕ). WritePromise first words buf (r .0) (r .1))
   pub is-step : (word : ℕ) → Settles (λ (r : Bool). r ≡ isStep firstEdition word)
   pub fields-of : (word : ℕ) → Settles (λ (r : Fields). r ≡ fieldsIn firstEdition word)
-  pub field : (word from width : ℕ) → Settles (λ (r : ℕ). r ≡ fieldAt word from width)
 
 -- ---- The round trip in any edition: a head with first boxes, and steps that fit
 

@@ -5,7 +5,7 @@ ghost use lib.ListN.{length, getD, take, set};
 ghost use Rattle.tape.specs.Bits.{num, bits, bitsOf, fieldAt, word, window, Ahead, overlaid};
 
 // The field of a word from its bit `from` on, the top bit being 0; 0 for a field that does not lie in the word.
-pub fn field(word: u64, from: usize, width: usize) -> u64
+pub(crate) fn field(word: u64, from: usize, width: usize) -> u64
     ensures { λ r. ⌜ r ≡ fieldAt word from width ⌝ }
 {
     if 64 <= from {

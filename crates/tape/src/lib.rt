@@ -12,7 +12,6 @@ mod layout;
 mod reading;
 mod writing;
 
-pub use bits::field;
 use edition::Edition;
 
 // What a tape holds: its first boxes, and how many words of the row its steps take.
