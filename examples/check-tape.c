@@ -38,7 +38,8 @@ static const char *reason_of(uint8_t number)
     case PARLOUR_TAPE_ENDS_TOO_SOON:
         return "it ends too soon: a part of it is missing";
     case PARLOUR_TAPE_NO_STEP:
-        return "it holds something that is no step";
+        return "it holds something that is no step: a long Ask with none of its last eight notes, "
+               "or a Stop of a device over 23";
     case PARLOUR_TAPE_AFTER_END:
         return "something follows its end mark";
     default:

@@ -32,7 +32,8 @@ enum parlour_tape_number {
     PARLOUR_TAPE_TOO_LONG = 11,      /* it has over 4,096 bytes */
     PARLOUR_TAPE_NO_FIRST_BOX = 12,  /* its set of first boxes is empty */
     PARLOUR_TAPE_ENDS_TOO_SOON = 13, /* under three bytes, or a step or the end mark is cut off */
-    PARLOUR_TAPE_NO_STEP = 14,       /* kind 6, or a Stop of a device 24 to 31 */
+    PARLOUR_TAPE_NO_STEP = 14,       /* a long Ask (kind 6) whose last eight notes are all absent,
+                                        or a Stop of a device 24 to 31 */
     PARLOUR_TAPE_AFTER_END = 15      /* after the end mark a bit is set or a byte follows */
 };
 

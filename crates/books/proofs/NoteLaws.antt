@@ -1,66 +1,136 @@
--- Laws of notes, all of them: what a change of their representation must prove anew. Notes are a set, so they are joined, contained and compared
+-- Laws of notes, all of them: what a change of their representation must prove anew. Notes are two sets, so they are joined, contained and compared
 -- by the laws of sets over the width (`notes-joined`, `notes-decided`), and a note of joined notes is in one side; a tablet's own notes stand at
 -- their places among all, and are those that it owns.
-use Prim.Native.Nat.{ℕ, _*_, _%_, _^_, _≤_, _<_}
+use Prim.Native.Nat.{ℕ, _+_, _-_, _*_, _/_, _%_, _^_, _≤_, _<_}
 use mathlib.Core.Bool.{Bool, true, false}
-use mathlib.Core.Path.{_≡_, refl, sym, ap, _∙_}
+use mathlib.Core.Path.{_≡_, refl, sym, ap, ap₂, _∙_}
 use mathlib.Core.Logic.{_⊎_}
-use native.Mathlib.Nat.{mod-eq-of-lt, mod-lt}
+use native.Mathlib.Nat.{lt-irrefl, mod-eq-of-lt, mod-lt, div-eq-of-lt, mul-mod-left, mul-div-cancel, mul-assoc}
 use native.Mathlib.Omega.{arith}
-use lib.Dec.{ltb}
-use lib.Pow.{shl-exact, pow-pos}
-use borrow.Author.Tests.{lt-ltb, le-ltb}
+use lib.Dec.{ltb, eqb}
+use lib.Pow.{shl-exact, shl-lt, shr-shr, pow-add, pow-pos, pow-mono}
+use borrow.Author.Tests.{lt-ltb, le-ltb, ne-eqb, eqb-true}
 use Rattle.sets.specs.Choice.{pick}
-use Rattle.sets.specs.Sets.{has}
+use Rattle.sets.specs.Sets.{digit, has, union}
 use Rattle.sets.proofs.Semilattice.{Semilattice}
-use Rattle.sets.proofs.SetLaws.{sets-joined, has-digit, has-union, union-has}
+use Rattle.sets.proofs.SetLaws.{sets-joined, has-digit, has-union, union-has, digit-low}
 use Rattle.sets.proofs.Single.{none-in-empty, in-moved}
 use Rattle.sets.proofs.BoundedLaws.{pick-true, pick-false}
-use Rattle.sets.proofs.Parts.{of-one, Decides, numbers-decided, decided-of-one}
+use Rattle.sets.proofs.Parts.{of-one, of-two, Decides, numbers-decided, decided-of-one, decided-of-two}
 use Rattle.books.specs.declared.Notes.{Notes}
-use Rattle.books.specs.Books.{owner, hasNote, notesOf, noNotes, ownNotes, notesInside, joinNotes, sameNotes}
+use Rattle.books.specs.Books.{owner, notesPart, hasNote, notesOf, noNotes, ownNotes, notesInside, joinNotes, sameNotes}
 
 -- ---- Joining, containment and equality
 
+noteParts : Notes → ℕ × ℕ
+noteParts n = (n .low, n .high)
+
+ofParts : ℕ × ℕ → Notes
+ofParts p = record { low = p .0; high = p .1 }
+
 pub notes-joined : Semilattice notesInside joinNotes
-notes-joined = of-one (λ (n : Notes). n .set) notesOf (λ s. refl) (λ n. refl) sets-joined
+unfolding noteParts ofParts
+notes-joined = of-one noteParts ofParts (λ p. refl) (λ n. refl) (of-two sets-joined sets-joined)
 
 pub notes-decided : Decides sameNotes
-notes-decided = decided-of-one (λ (n : Notes). n .set) notesOf (λ n. refl) numbers-decided
+unfolding noteParts ofParts
+notes-decided = decided-of-one noteParts ofParts (λ n. refl) (decided-of-two numbers-decided numbers-decided)
+
+-- ---- Parts
+
+pub part-at : (notes : Notes) (k j : ℕ) → k ≡ j → notesPart notes j ≡ notesPart notes k
+part-at notes k j e = ap (notesPart notes) (sym e)
+
+pub part-past : (notes : Notes) (k : ℕ) → 1 < k → 0 ≡ notesPart notes k
+part-past notes k h =
+    pick-false (notes .high) 0 (ne-eqb k 1 (λ e. lt-irrefl 1 (omega arith)))
+    ∙ pick-false (notes .low) (pick (eqb k 1) (notes .high) 0) (ne-eqb k 0 (λ e. lt-irrefl 1 (omega arith)))
 
 -- ---- Single notes
 
+part-joined : (k : ℕ) (a b : Notes) → notesPart (joinNotes a b) k ≡ union (notesPart a k) (notesPart b k)
+part-joined k a b = go (eqb k 0) (eqb k 1)
+  where
+    go : (s t : Bool) → pick s (union (a .low) (b .low)) (pick t (union (a .high) (b .high)) 0)
+        ≡ union (pick s (a .low) (pick t (a .high) 0)) (pick s (b .low) (pick t (b .high) 0))
+    go true t = refl
+    go false true = refl
+    go false false = refl
+
 pub note-in-join : (note : ℕ) (a b : Notes) → hasNote note (joinNotes a b) ≡ true → (hasNote note a ≡ true) ⊎ (hasNote note b ≡ true)
-note-in-join note a b = has-union note (a .set) (b .set)
+note-in-join note a b h =
+    has-union (note % 64) (notesPart a (note / 64)) (notesPart b (note / 64)) (sym (ap (has (note % 64)) (part-joined (note / 64) a b)) ∙ h)
 
 pub note-stays : (note : ℕ) (a b : Notes) → hasNote note a ≡ true → hasNote note (joinNotes a b) ≡ true
-note-stays note a b = union-has note (a .set) (b .set)
+note-stays note a b h =
+    ap (has (note % 64)) (part-joined (note / 64) a b) ∙ union-has (note % 64) (notesPart a (note / 64)) (notesPart b (note / 64)) h
+
+-- "note n having weight 2^n": a note of a set's notes is in the set
+in-set : (set note : ℕ) → hasNote note (notesOf set) ≡ true → digit note set ≡ 1
+in-set set note h = go (eqb (note / 64) 0) refl (eqb (note / 64) 1) refl (has-digit (note % 64) (notesPart (notesOf set) (note / 64)) h)
+  where
+    go : (s : Bool) → eqb (note / 64) 0 ≡ s → (t : Bool) → eqb (note / 64) 1 ≡ t
+        → digit (note % 64) (pick s (set % 2 ^ 64) (pick t (set / 2 ^ 64) 0)) ≡ 1 → digit note set ≡ 1
+    go true e t f i =
+        let low : note % 64 ≡ note = omega (arith, eqb-true (note / 64) 0 e) in
+        sym (digit-low note 64 set (omega (arith, eqb-true (note / 64) 0 e))) ∙ ap (λ (n : ℕ). digit n (set % 2 ^ 64)) (sym low) ∙ i
+    go false e true f i =
+        let high : 64 + note % 64 ≡ note = omega (arith, eqb-true (note / 64) 1 f) in
+        ap (λ (n : ℕ). digit n set) (sym high) ∙ ap (λ (n : ℕ). n % 2) (sym (shr-shr set 64 (note % 64))) ∙ i
+    go false e false f i = absurd (none-in-empty (note % 64) i)
 
 pub no-note : (note : ℕ) → hasNote note noNotes ≡ true → ⊥
-no-note note h = none-in-empty note (has-digit note 0 h)
+no-note note h = none-in-empty note (in-set 0 note h)
 
 -- ---- A tablet's own notes
 
-pub own-none : (tablet own : ℕ) → 7 < tablet → record { set = 0 } ≡ ownNotes tablet own
+pub own-none : (tablet own : ℕ) → 7 < tablet → noNotes ≡ ownNotes tablet own
 unfolding ownNotes
-own-none tablet own h =
-    ap (λ (s : ℕ). record { set = s }) (pick-true 0 (own % 2 ^ 8 * 2 ^ (8 * tablet)) (lt-ltb 7 tablet h))
+own-none tablet own h = ap notesOf (pick-true 0 (own % 2 ^ 16 * 2 ^ (16 * tablet)) (lt-ltb 7 tablet h))
 
-pub own-placed : (tablet own : ℕ) → tablet ≤ 7 → own < 256
-    → record { set = own * 2 ^ (8 * tablet) % 18446744073709551616 } ≡ ownNotes tablet own
+-- the own notes of a tablet are the notes of one set
+own-set : (tablet own : ℕ) → tablet ≤ 7 → own < 65536 → notesOf (own * 2 ^ (16 * tablet)) ≡ ownNotes tablet own
 unfolding ownNotes
-own-placed tablet own h l =
-    ap (λ (s : ℕ). record { set = s })
-    (shl-exact 8 (8 * tablet) 64 l (omega arith) ∙ ap (λ (n : ℕ). n * 2 ^ (8 * tablet)) (sym (mod-eq-of-lt l))
-    ∙ pick-false 0 (own % 2 ^ 8 * 2 ^ (8 * tablet)) (le-ltb 7 tablet h))
+own-set tablet own h l =
+    ap notesOf
+    (ap (λ (n : ℕ). n * 2 ^ (16 * tablet)) (sym (mod-eq-of-lt l))
+    ∙ pick-false 0 (own % 2 ^ 16 * 2 ^ (16 * tablet)) (le-ltb 7 tablet h))
 
--- "Tablet t owns 8t to 8t+7": a note among a tablet's own is the tablet's
+-- sixteen notes among four tablets' sixty-four
+placed-is : (own k : ℕ) → own < 65536 → k < 4 → own * 2 ^ (16 * k) % 18446744073709551616 ≡ own * 2 ^ (16 * k)
+placed-is own k l h = shl-exact 16 (16 * k) 64 l (omega arith)
+
+pub own-low : (tablet own : ℕ) → tablet < 4 → own < 65536
+    → record { low = own * 2 ^ (16 * (tablet % 4)) % 18446744073709551616; high = 0 } ≡ ownNotes tablet own
+own-low tablet own h l =
+    let k : tablet % 4 ≡ tablet = omega arith in
+    let x = own * 2 ^ (16 * tablet) in
+    let p = placed-is own tablet l h in
+    let high : x / 2 ^ 64 ≡ 0 = div-eq-of-lt (rw (sym p) (mod-lt x (pow-pos 64))) in
+    ap (λ (n : ℕ). record { low = own * 2 ^ (16 * n) % 18446744073709551616; high = 0 }) k
+    ∙ ap (λ (n : ℕ). record { low = x % 2 ^ 64; high = n }) (sym high)
+    ∙ own-set tablet own (omega arith) l
+
+pub own-high : (tablet own : ℕ) → 4 ≤ tablet → tablet ≤ 7 → own < 65536
+    → record { low = 0; high = own * 2 ^ (16 * (tablet % 4)) % 18446744073709551616 } ≡ ownNotes tablet own
+own-high tablet own f h l =
+    let k = tablet % 4 in
+    let x = own * 2 ^ (16 * k) in
+    let place : 16 * tablet ≡ 16 * k + 64 = omega arith in
+    let whole : x * 2 ^ 64 ≡ own * 2 ^ (16 * tablet) =
+    mul-assoc own (2 ^ (16 * k)) (2 ^ 64) ∙ ap (λ (n : ℕ). own * n) (sym (pow-add 2 (16 * k) 64)) ∙ ap (λ (n : ℕ). own * 2 ^ n) (sym place) in
+    ap (λ (n : ℕ). record { low = 0; high = n }) (placed-is own k l (omega arith))
+    ∙ ap₂ (λ (a b : ℕ). record { low = a; high = b }) (sym (mul-mod-left x (2 ^ 64))) (sym (mul-div-cancel x (pow-pos 64)))
+    ∙ ap notesOf whole
+    ∙ own-set tablet own h l
+
+-- "Tablet t is to own 16t to 16t+15": a note among a tablet's own is the tablet's
 pub own-note : (tablet own note : ℕ) → hasNote note (ownNotes tablet own) ≡ true → tablet ≡ owner note
 unfolding ownNotes
-own-note tablet own note h = go (ltb 7 tablet) h
+own-note tablet own note h = go (ltb 7 tablet) (in-set (pick (ltb 7 tablet) 0 (own % 2 ^ 16 * 2 ^ (16 * tablet))) note h)
   where
-    go : (b : Bool) → has note (pick b 0 (own % 2 ^ 8 * 2 ^ (8 * tablet))) ≡ true → tablet ≡ owner note
-    go true i = absurd (no-note note i)
+    go : (b : Bool) → digit note (pick b 0 (own % 2 ^ 16 * 2 ^ (16 * tablet))) ≡ 1 → tablet ≡ owner note
+    go true i = absurd (none-in-empty note i)
     go false i =
-        let m = in-moved 8 (8 * tablet) (own % 2 ^ 8) note (mod-lt own (pow-pos 8)) (has-digit note (own % 2 ^ 8 * 2 ^ (8 * tablet)) i) in
+        let m = in-moved 16 (16 * tablet) (own % 2 ^ 16) note (mod-lt own (pow-pos 16)) i in
         omega arith

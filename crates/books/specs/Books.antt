@@ -1,4 +1,4 @@
--- Notes, configurations and books: 01, "Books, boxes and containment", sentence by sentence.
+-- Notes, configurations and books: 01, "Books, boxes and containment", sentence by sentence, with the notes of request [1].
 use Prim.Native.Nat.{ℕ, _*_, _/_, _%_, _^_}
 use mathlib.Core.Bool.{Bool}
 use lib.Dec.{eqb, ltb}
@@ -9,29 +9,29 @@ use Rattle.books.specs.declared.Notes.{Notes}
 use Rattle.books.specs.declared.Config.{Config}
 use Rattle.books.specs.declared.Book.{Book}
 
--- "Tablet t owns 8t to 8t+7": the tablet that owns a note
+-- "Tablet t is to own 16t to 16t+15"; "owner as number divided by 16, rounded down"
 abbrev pub owner : ℕ → ℕ
-owner note = note / 8
-
--- "Notes are a set of 64 bits, note n having weight 2^n": the note is among them
-abbrev pub hasNote : ℕ → Notes → Bool
-hasNote note notes = has note (notes .set)
+owner note = note / 16
 
 -- the notes 64 k to 64 k + 63 as a set, the lowest of them having weight 1; none beyond the last
 abbrev pub notesPart : Notes → ℕ → ℕ
-notesPart notes k = pick (eqb k 0) (notes .set) 0
+notesPart notes k = pick (eqb k 0) (notes .low) (pick (eqb k 1) (notes .high) 0)
 
--- the notes of such a set
+-- "a book holds 128", "note n having weight 2^n": the note is among them
+abbrev pub hasNote : ℕ → Notes → Bool
+hasNote note notes = has (note % 64) (notesPart notes (note / 64))
+
+-- the notes of a set of 128 bits
 abbrev pub notesOf : ℕ → Notes
-notesOf set = record { set = set }
+notesOf set = record { low = set % 2 ^ 64; high = set / 2 ^ 64 }
 
 -- no notes
 abbrev pub noNotes : Notes
-noNotes = record { set = 0 }
+noNotes = record { low = 0; high = 0 }
 
 -- the tablet's own notes, own bits of which its lowest number has weight 1, at their places among all; a tablet over 7 owns none
 unfoldable pub ownNotes : ℕ → ℕ → Notes
-ownNotes tablet own = record { set = pick (ltb 7 tablet) 0 (own % 2 ^ 8 * 2 ^ (8 * tablet)) }
+ownNotes tablet own = notesOf (pick (ltb 7 tablet) 0 (own % 2 ^ 16 * 2 ^ (16 * tablet)))
 
 -- "A configuration is two sets of boxes, added and removed": no boxes at all
 abbrev pub noConfig : Config
@@ -47,7 +47,7 @@ noBook = record { notes = noNotes; config = noConfig }
 
 -- "One contains another when each of the three sets does": a is contained in b, for notes, configurations, books
 abbrev pub notesInside : Notes → Notes → Bool
-notesInside a b = inside (a .set) (b .set)
+notesInside a b = both (inside (a .low) (b .low)) (inside (a .high) (b .high))
 
 abbrev pub configInside : Config → Config → Bool
 configInside a b = both (inside (a .added) (b .added)) (inside (a .removed) (b .removed))
@@ -57,7 +57,7 @@ bookInside a b = both (notesInside (a .notes) (b .notes)) (configInside (a .conf
 
 -- "Joining is union, set by set": of notes, configurations, books
 abbrev pub joinNotes : Notes → Notes → Notes
-joinNotes a b = record { set = union (a .set) (b .set) }
+joinNotes a b = record { low = union (a .low) (b .low); high = union (a .high) (b .high) }
 
 abbrev pub joinConfigs : Config → Config → Config
 joinConfigs a b = record { added = union (a .added) (b .added); removed = union (a .removed) (b .removed) }
@@ -67,7 +67,7 @@ joinBooks a b = record { notes = joinNotes (a .notes) (b .notes); config = joinC
 
 -- the same notes, the same configuration
 abbrev pub sameNotes : Notes → Notes → Bool
-sameNotes a b = eqb (a .set) (b .set)
+sameNotes a b = both (eqb (a .low) (b .low)) (eqb (a .high) (b .high))
 
 abbrev pub sameConfig : Config → Config → Bool
 sameConfig a b = both (eqb (a .added) (b .added)) (eqb (a .removed) (b .removed))

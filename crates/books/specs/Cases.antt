@@ -1,5 +1,5 @@
 -- Small cases of 01, computed: one table under one statement.
-use Prim.Native.Nat.{ℕ, _^_}
+use Prim.Native.Nat.{ℕ, _-_, _^_}
 use mathlib.Core.Bool.{true, false}
 use mathlib.Core.Path.{_≡_, refl}
 use lib.ListN.{replicate}
@@ -9,7 +9,7 @@ use Rattle.books.specs.declared.Notes.{Notes}
 use Rattle.books.specs.declared.Config.{Config}
 use Rattle.books.specs.declared.Book.{Book}
 use Rattle.books.specs.declared.Listed.{Listed}
-use Rattle.books.specs.Books.{notesPart, noNotes, ownNotes, noConfig, membersOf, bookInside, joinNotes, joinBooks}
+use Rattle.books.specs.Books.{hasNote, notesOf, noNotes, ownNotes, noConfig, membersOf, bookInside, joinNotes, joinBooks}
 use Rattle.books.specs.Queried.{firstPlace, placeOf, withChange, outside, joinedWith, everyMajority, askedBoxes}
 
 -- own notes of tablets 0 and 1, a configuration, and a book
@@ -33,9 +33,16 @@ unfoldable comes : Listed
 comes = withChange goes (config 0x2 0x1)
 
 pub record Cases : Type 0 where
-  -- "Tablet t owns 8t to 8t+7": the highest note of the highest tablet; a tablet over 7 owns none
-  highest-note : notesPart (ownNotes 7 0x80) 0 ≡ 2 ^ 63
-  no-tablet : ownNotes 8 0xff ≡ noNotes
+  -- "Tablet t is to own 16t to 16t+15": the highest note of tablet 3 and the lowest of tablet 4, on both sides of the parts' edge;
+  -- note 127, the highest of tablet 7; a tablet over 7 owns none
+  highest-of-3 : ownNotes 3 0x8000 ≡ notesOf (2 ^ 63)
+  lowest-of-4 : ownNotes 4 0x0001 ≡ notesOf (2 ^ 64)
+  highest-note : ownNotes 7 0x8000 ≡ notesOf (2 ^ 127)
+  no-tablet : ownNotes 8 0xffff ≡ noNotes
+  -- "note n having weight 2^n": note 127 is in the set of 2^127, note 63 is not, and there is no note 128
+  has-highest : hasNote 127 (notesOf (2 ^ 127)) ≡ true
+  has-not : hasNote 63 (notesOf (2 ^ 127)) ≡ false
+  no-further : hasNote 128 (notesOf (2 ^ 128 - 1)) ≡ false
   -- "Members are those added and not removed.": boxes 0, 1, 2 added and box 1 removed
   members-left : membersOf (config 0x7 0x2) ≡ 0x5
   -- "Once removed, a number never returns.": box 1 added again
@@ -68,8 +75,13 @@ pub cases : Cases
 unfolding ownNotes goes comes withChange placeOf firstPlace outside those joinedWith times askedBoxes unions everyMajority each majorityOf majority weigh one
 cases =
     record {
+      highest-of-3 = refl;
+      lowest-of-4 = refl;
       highest-note = refl;
       no-tablet = refl;
+      has-highest = refl;
+      has-not = refl;
+      no-further = refl;
       members-left = refl;
       never-returns = refl;
       notes-larger = refl;

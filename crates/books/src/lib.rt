@@ -5,13 +5,14 @@ ghost use Prim.Native.Nat.{_<_, _≤_};
 ghost use Rattle.books.specs.Books.{notesPart, ownNotes, noBook, notesInside, configInside, bookInside, joinNotes, joinConfigs, joinBooks, sameNotes, sameConfig};
 ghost use Rattle.books.specs.Queried.{placeOf, outside, joinedWith, everyMajority, askedBoxes, stays};
 
-// Notes as a set: note n has weight 2^n. Books and candidates hold them as one value, which only this crate takes apart. which only this crate takes apart.
+// Notes as a set of 128: note n has weight 2^n in `low`, from 64 on 2^(n - 64) in `high`. Only this crate takes them apart.
 pub struct Notes {
-    set: u64,
+    low: u64,
+    high: u64,
 }
 
 // How many parts of 64 notes there are.
-pub const NOTE_PARTS: usize = 1;
+pub const NOTE_PARTS: usize = 2;
 
 pub struct Config {
     pub added: u16,
@@ -33,7 +34,7 @@ pub fn no_book() -> Book
     ensures { λ r. ⌜ r ≡ noBook ⌝ }
 {
     Book {
-        notes: Notes { set: 0 },
+        notes: Notes { low: 0, high: 0 },
         config: Config {
             added: 0,
             removed: 0,
@@ -42,14 +43,23 @@ pub fn no_book() -> Book
 }
 
 // A tablet's own notes at their places among all; a tablet over 7 owns none.
-pub fn own_notes(tablet: u8, own: u8) -> Notes
+pub fn own_notes(tablet: u8, own: u16) -> Notes
     ensures { λ r. ⌜ r ≡ ownNotes tablet own ⌝ }
 {
     if 7 < tablet {
-        return Notes { set: 0 };
+        return Notes { low: 0, high: 0 };
     }
-    Notes {
-        set: (own as u64) << (8 * tablet),
+    let placed = (own as u64) << (16 * (tablet % 4));
+    if tablet < 4 {
+        Notes {
+            low: placed,
+            high: 0,
+        }
+    } else {
+        Notes {
+            low: 0,
+            high: placed,
+        }
     }
 }
 
@@ -57,25 +67,32 @@ pub fn own_notes(tablet: u8, own: u8) -> Notes
 pub fn notes_part(notes: Notes, k: usize) -> u64
     ensures { λ r. ⌜ r ≡ notesPart notes k ⌝ }
 {
-    if k == 0 { notes.set } else { 0 }
+    match k {
+        0 => notes.low,
+        1 => notes.high,
+        _ => 0,
+    }
 }
 
 pub fn join_notes(a: Notes, b: Notes) -> Notes
     ensures { λ r. ⌜ r ≡ joinNotes a b ⌝ }
 {
-    Notes { set: a.set | b.set }
+    Notes {
+        low: a.low | b.low,
+        high: a.high | b.high,
+    }
 }
 
 fn notes_inside(a: Notes, b: Notes) -> bool
     ensures { λ r. ⌜ r ≡ notesInside a b ⌝ }
 {
-    (a.set | b.set) == b.set
+    ((a.low | b.low) == b.low) & ((a.high | b.high) == b.high)
 }
 
 pub fn same_notes(a: Notes, b: Notes) -> bool
     ensures { λ r. ⌜ r ≡ sameNotes a b ⌝ }
 {
-    a.set == b.set
+    (a.low == b.low) & (a.high == b.high)
 }
 
 fn join_configs(a: Config, b: Config) -> Config

@@ -59,7 +59,12 @@ pub enum Message {
 }
 
 pub enum Step {
-    Ask { tablet: u8, notes: u8, pair: Config },
+    // Own notes as a set: the lowest of the tablet's sixteen has weight 1.
+    Ask {
+        tablet: u8,
+        notes: u16,
+        pair: Config,
+    },
     Advance(u8),
     Deliver(u8),
     Lose(u8),

@@ -8,9 +8,11 @@ use streams::Out;
 use streams::put;
 use streams::put_decimal;
 
-fn put_ask(buffer: &mut [u8; 4096], out: Out, tablet: u8, notes: u8, pair: Config) -> Out {
+// The notes in two digits where the first eight of the sixteen are all, as on the tape, else in four.
+fn put_ask(buffer: &mut [u8; 4096], out: Out, tablet: u8, notes: u16, pair: Config) -> Out {
     let after_tablet = put_decimal(buffer, out, b"ask ", tablet as u64);
-    let after_notes = put_set(buffer, after_tablet, notes as u64, 2);
+    let digits: usize = if notes <= 0xff { 2 } else { 4 };
+    let after_notes = put_set(buffer, after_tablet, notes as u64, digits);
     let after_added = put_set(buffer, after_notes, pair.added as u64, 4);
     put_set(buffer, after_added, pair.removed as u64, 4)
 }

@@ -207,7 +207,7 @@ pub fn step(run: Run, step: Step) -> Stepped
     take(run, false, step)
 }
 
-pub fn ask(run: Run, tablet: u8, notes: u8, added: u16, removed: u16) -> Stepped
+pub fn ask(run: Run, tablet: u8, notes: u16, added: u16, removed: u16) -> Stepped
     ensures { λ r. ⌜ StepPromise (Step.Ask tablet notes (record { added = added; removed = removed })) run r ⌝ }
 {
     take(

@@ -33,11 +33,11 @@ delivered = Deliver 1 ∷ Deliver 0 ∷ Deliver 1 ∷ Deliver 0 ∷ Ask 0 1 noCo
 abbrev printed : List Step
 printed = Advance 0 ∷ delivered
 
--- "5 ADV 0 C 0000000000000001 0007 0000"
+-- "5 ADV 0 C 0000..0001 0007 0000", with 32 digits for the notes
 abbrev book : Book
 book = record { notes = notesOf 0x1; config = record { added = 0x7; removed = 0 } }
 
--- "Tablet 0 asks note 0, tablet 1 asks note 8. Box 0 hears tablet 0 first, and tablet 1 has answers from 0 and 1: its Advance gives R 2"
+-- "Tablet 0 asks note 0, tablet 1 asks note 16. Box 0 hears tablet 0 first, and tablet 1 has answers from 0 and 1: its Advance gives R 2"
 abbrev at-once : List Step
 at-once = Advance 1 ∷ Deliver 4 ∷ Deliver 3 ∷ Deliver 4 ∷ Deliver 3 ∷ Deliver 0 ∷ Ask 1 1 noConfig ∷ Ask 0 1 noConfig ∷ []
 

@@ -102,7 +102,7 @@ pub record ContainsOwnAsk (event : Event) (earlier : List Event) (book : Book) :
   pub last : lastAsk tablet earlier ≡ some asked
   pub contained : bookInside asked book ≡ true
 
--- the note was among the own notes of an accepted ask, and the ask was of the note's owner, tablet n / 8
+-- the note was among the own notes of an accepted ask, and the ask was of the note's owner, tablet n / 16
 pub record NoteAsked (note : ℕ) (h : List Event) : Type 0 where
   pub ask : AcceptedAsk h
   pub there : hasNote note (ownNotes (ask .tablet) (ask .own)) ≡ true

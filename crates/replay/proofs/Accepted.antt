@@ -38,7 +38,8 @@ of-wide f (suc (suc zero)) h = record { step = Deliver (f .first); is = refl }
 of-wide f (suc (suc (suc zero))) h = record { step = Lose (f .first); is = refl }
 of-wide f (suc (suc (suc (suc zero)))) h = record { step = Repeat (f .first); is = refl }
 of-wide f (suc (suc (suc (suc (suc zero))))) h = record { step = Stop (f .first); is = refl }
-of-wide f (suc (suc (suc (suc (suc (suc k)))))) h = absurd (h refl)
+of-wide f (suc (suc (suc (suc (suc (suc zero)))))) h = record { step = Ask (f .first) (f .second) (record { added = f .third; removed = f .fourth }); is = refl }
+of-wide f (suc (suc (suc (suc (suc (suc (suc k))))))) h = absurd (h refl)
 
 pub word-plays : (x : ℕ) → 0 < wide firstEdition x → Plays x
 unfolding fieldsIn fieldsOf

@@ -37,7 +37,7 @@ numbers-lt (x ∷ xs) f (suc i) n h = numbers-lt xs (drop (x .width) f) i n h
 -- the widest fields of the table, by their place
 abbrev Widths : List Field → Type 0
 Widths xs =
-    (getD xs 0 noField .width ≤ 8) × (getD xs 1 noField .width ≤ 8) × (getD xs 2 noField .width ≤ 16) × (getD xs 3 noField .width ≤ 16)
+    (getD xs 0 noField .width ≤ 8) × (getD xs 1 noField .width ≤ 16) × (getD xs 2 noField .width ≤ 16) × (getD xs 3 noField .width ≤ 16)
 
 widths : (k : ℕ) → Widths (fields firstEdition k)
 widths zero = (omega arith, omega arith, omega arith, omega arith)
@@ -46,7 +46,8 @@ widths (suc (suc zero)) = (omega arith, omega arith, omega arith, omega arith)
 widths (suc (suc (suc zero))) = (omega arith, omega arith, omega arith, omega arith)
 widths (suc (suc (suc (suc zero)))) = (omega arith, omega arith, omega arith, omega arith)
 widths (suc (suc (suc (suc (suc zero))))) = (omega arith, omega arith, omega arith, omega arith)
-widths (suc (suc (suc (suc (suc (suc k)))))) = (omega arith, omega arith, omega arith, omega arith)
+widths (suc (suc (suc (suc (suc (suc zero)))))) = (omega arith, omega arith, omega arith, omega arith)
+widths (suc (suc (suc (suc (suc (suc (suc k))))))) = (omega arith, omega arith, omega arith, omega arith)
 
 pub fields-small : (x : ℕ) (f : Fields) → f ≡ fieldsIn firstEdition x → Small f
 unfolding fieldsIn fieldsOf
@@ -54,14 +55,14 @@ fields-small x f e =
     let k = num (take 3 (bits 64 x)) in
     let below = numbers-lt (fields firstEdition k) (drop 3 (bits 64 x)) in
     let w = widths k in
-    subst Small (sym e) (record { first = below 0 8 (w .0); second = below 1 8 (w .1); third = below 2 16 (w .2); fourth = below 3 16 (w .3) })
+    subst Small (sym e) (record { first = below 0 8 (w .0); second = below 1 16 (w .1); third = below 2 16 (w .2); fourth = below 3 16 (w .3) })
 
 -- ---- The cases of a word
 
 pub of-kind : (f : Fields) (k : ℕ) → f .kind ≡ k → getD (kinds f) k D.NoStep ≡ ofFields f
 of-kind f k e = ap (λ n. getD (kinds f) n D.NoStep) (sym e)
 
-pub of-no-kind : (f : Fields) → 6 ≤ f .kind → D.NoStep ≡ ofFields f
+pub of-no-kind : (f : Fields) → 7 ≤ f .kind → D.NoStep ≡ ofFields f
 of-no-kind f h = sym (List·getD-eq-default (kinds f) D.NoStep h)
 
 pub step-is : (x : ℕ) (f : Fields) (d : Decoded) → isStep firstEdition x ≡ true → f ≡ fieldsIn firstEdition x → d ≡ ofFields f → d ≡ stepOf x

@@ -17,15 +17,20 @@ use Rattle.tape.specs.Writing.{isStep}
 use Rattle.replay.specs.declared.Decoded.{Decoded}
 use Rattle.replay.specs.declared.Decoded.the-variants as D
 
--- "each a 3-bit kind and its fields": the steps of these fields, from kind 0 on
+-- "there is one Ask, with 16 notes": "The old Ask stays and means the first eight of the sixteen"
+abbrev pub asked : Fields → Decoded
+asked f = D.Step (Ask (f .first) (f .second) (record { added = f .third; removed = f .fourth }))
+
+-- "each a 3-bit kind and its fields": the steps of these fields, from kind 0 on; kind 6 is "a long Ask"
 abbrev pub kinds : Fields → List Decoded
 kinds f =
-    D.Step (Ask (f .first) (f .second) (record { added = f .third; removed = f .fourth }))
+    asked f
     ∷ D.Step (Advance (f .first))
     ∷ D.Step (Deliver (f .first))
     ∷ D.Step (Lose (f .first))
     ∷ D.Step (Repeat (f .first))
     ∷ D.Step (Stop (f .first))
+    ∷ asked f
     ∷ []
 
 -- the step of a kind and its fields; none where no step has the kind

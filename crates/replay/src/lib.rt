@@ -6,13 +6,29 @@ use state::Run;
 use state::Stepped;
 use tape::Fields;
 ghost use mathlib.Core.Path.{_≡_};
-ghost use Rattle.replay.specs.Replay.{ofFields, stepOf, PlayPromise};
+ghost use Rattle.replay.specs.Replay.{asked, ofFields, stepOf, PlayPromise};
 ghost use Rattle.replay.specs.Working.{Small};
 
 // The step that a word is, or that it is none.
 pub enum Decoded {
     Step(Step),
     NoStep,
+}
+
+// An Ask, short or long: a step has sixteen notes, of which the short one brings the first eight.
+fn asked_in(f: Fields) -> Decoded
+    requires { ⌜ Small f ⌝ }
+    ensures { λ r. ⌜ r ≡ asked f ⌝ }
+{
+    let pair = Config {
+        added: f.third as u16,
+        removed: f.fourth as u16,
+    };
+    Decoded::Step(Step::Ask {
+        tablet: f.first as u8,
+        notes: f.second as u16,
+        pair: pair,
+    })
 }
 
 // The step of a kind and its fields.
@@ -22,22 +38,13 @@ fn of_fields(f: Fields) -> Decoded
 {
     let kind = f.kind;
     match kind {
-        0 => {
-            let pair = Config {
-                added: f.third as u16,
-                removed: f.fourth as u16,
-            };
-            Decoded::Step(Step::Ask {
-                tablet: f.first as u8,
-                notes: f.second as u8,
-                pair: pair,
-            })
-        }
+        0 => asked_in(f),
         1 => Decoded::Step(Step::Advance(f.first as u8)),
         2 => Decoded::Step(Step::Deliver(f.first as u8)),
         3 => Decoded::Step(Step::Lose(f.first as u8)),
         4 => Decoded::Step(Step::Repeat(f.first as u8)),
         5 => Decoded::Step(Step::Stop(f.first as u8)),
+        6 => asked_in(f),
         _ => Decoded::NoStep,
     }
 }

@@ -12,7 +12,7 @@ ghost use Prim.Native.Nat.{_<_, _^_};
 ghost use Rattle.rules.specs.Rules.{askWith, askPair, ask};
 
 // The notes and the pair, as a set of listed changes, are merged in, and a round begins.
-fn ask_with(tablet: u8, own: u8, pair: u8, listed: Listed, h: Here) -> Effect
+fn ask_with(tablet: u8, own: u16, pair: u8, listed: Listed, h: Here) -> Effect
     ensures { λ r. ⌜ r ≡ askWith tablet own pair listed h ⌝ }
 {
     let mine = h.contents;
@@ -39,7 +39,7 @@ fn only_change(place: usize) -> u8
 }
 
 // A pair that is contained in v is named by no change; one that is listed by its place; another is listed behind the others.
-fn ask_pair(tablet: u8, own: u8, pair: Config, h: Here) -> Effect
+fn ask_pair(tablet: u8, own: u16, pair: Config, h: Here) -> Effect
     ensures { λ r. ⌜ r ≡ askPair tablet own pair h ⌝ }
 {
     let v = h.contents.v;
@@ -61,7 +61,7 @@ fn ask_pair(tablet: u8, own: u8, pair: Config, h: Here) -> Effect
     ask_with(tablet, own, only_change(count), more, h)
 }
 
-pub(crate) fn ask_rule(tablet: u8, own: u8, pair: Config, h: Here) -> Effect
+pub(crate) fn ask_rule(tablet: u8, own: u16, pair: Config, h: Here) -> Effect
     ensures { λ r. ⌜ r ≡ ask tablet own pair h ⌝ }
 {
     if h.stopped {

@@ -1,5 +1,5 @@
 -- Sets of small numbers. A set is a number: "box b having weight 2^b", "note n having weight 2^n" (01, Books, boxes and containment).
--- So a set of boxes is a number below 2^16, a set of notes one below 2^64, a set of listed changes one below 2^6; no definition here knows the width.
+-- So a set of boxes is a number below 2^16, each part of the notes one below 2^64, a set of listed changes one below 2^6; no definition here knows the width.
 use Prim.Native.Nat.{ℕ, _-_, _/_, _%_, _^_}
 use mathlib.Core.Bool.{Bool}
 use lib.Dec.{eqb}

@@ -14,6 +14,7 @@ fn placed(f: Fields) -> u64 {
         0 => (f.first << 58) | (f.second << 50) | (f.third << 34) | (f.fourth << 18),
         1 => (kind << 61) | (f.first << 58),
         5 => (kind << 61) | (f.first << 56),
+        6 => (kind << 61) | (f.first << 58) | (f.second << 42) | (f.third << 26) | (f.fourth << 10),
         _ => (kind << 61) | (f.first << 54),
     }
 }

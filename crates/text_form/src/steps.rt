@@ -98,6 +98,11 @@ fn no_field(field: Field) -> Parsed {
     }
 }
 
+// The short Ask where the first eight of the sixteen notes are all, else the long one.
+fn ask_kind(notes: u64) -> u64 {
+    if notes <= 0xff { 0 } else { 6 }
+}
+
 fn ask_at(words: Words, at: usize) -> Parsed
     requires { ⌜ at ≤ 2 ⌝ }
 {
@@ -105,7 +110,7 @@ fn ask_at(words: Words, at: usize) -> Parsed
     let Field::Is(first) = tablet else {
         return no_field(tablet);
     };
-    let notes = set_at(words, at + 2, 0xff, Wrong::NotesOver);
+    let notes = set_at(words, at + 2, 0xffff, Wrong::NotesOver);
     let Field::Is(second) = notes else {
         return no_field(notes);
     };
@@ -121,7 +126,7 @@ fn ask_at(words: Words, at: usize) -> Parsed
         return Parsed::Wrong(Wrong::Behind);
     }
     Parsed::Is(Fields {
-        kind: 0,
+        kind: ask_kind(second),
         first: first,
         second: second,
         third: third,

@@ -27,7 +27,7 @@ fn say_wrong(wrong: Wrong) {
         Wrong::NoDecimal => say(b"a number is not in decimal digits\n"),
         Wrong::NoHex => say(b"a set is not in hexadecimal digits\n"),
         Wrong::TabletOver => say(b"tablet over 7\n"),
-        Wrong::NotesOver => say(b"own notes over ff\n"),
+        Wrong::NotesOver => say(b"own notes over ffff\n"),
         Wrong::BoxesOver => say(b"a set of boxes over ffff\n"),
         Wrong::SlotOver => say(b"slot over 127\n"),
         Wrong::DeviceOver => say(b"device over 23\n"),
