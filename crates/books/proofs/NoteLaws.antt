@@ -8,8 +8,8 @@ use mathlib.Core.Logic.{_⊎_}
 use native.Mathlib.Nat.{lt-irrefl, mod-eq-of-lt, mod-lt, div-eq-of-lt, mul-mod-left, mul-div-cancel, mul-assoc}
 use native.Mathlib.Omega.{arith}
 use lib.Dec.{ltb, eqb}
-use lib.Pow.{shl-exact, shl-lt, shr-shr, pow-add, pow-pos, pow-mono}
-use borrow.Author.Tests.{lt-ltb, le-ltb, ne-eqb, eqb-true}
+use lib.Pow.{shl-exact, shl-shr, shr-shr, pow-add, pow-pos}
+use borrow.Author.Tests.{lt-ltb, le-ltb, ltb-true, ltb-false, eq-eqb, ne-eqb, eqb-true, eqb-false}
 use Rattle.sets.specs.Choice.{pick}
 use Rattle.sets.specs.Sets.{digit, has, union}
 use Rattle.sets.proofs.Semilattice.{Semilattice}
@@ -65,19 +65,29 @@ pub note-stays : (note : ℕ) (a b : Notes) → hasNote note a ≡ true → hasN
 note-stays note a b h =
     ap (has (note % 64)) (part-joined (note / 64) a b) ∙ union-has (note % 64) (notesPart a (note / 64)) (notesPart b (note / 64)) h
 
--- "note n having weight 2^n": a note of a set's notes is in the set
-in-set : (set note : ℕ) → hasNote note (notesOf set) ≡ true → digit note set ≡ 1
-in-set set note h = go (eqb (note / 64) 0) refl (eqb (note / 64) 1) refl (has-digit (note % 64) (notesPart (notesOf set) (note / 64)) h)
+-- "note n having weight 2^n": a note is among a set's notes where it is in the set
+note-digit : (set note : ℕ) → note < 128 → digit (note % 64) (notesPart (notesOf set) (note / 64)) ≡ digit note set
+note-digit set note l = go (eqb (note / 64) 0) refl
   where
-    go : (s : Bool) → eqb (note / 64) 0 ≡ s → (t : Bool) → eqb (note / 64) 1 ≡ t
-        → digit (note % 64) (pick s (set % 2 ^ 64) (pick t (set / 2 ^ 64) 0)) ≡ 1 → digit note set ≡ 1
-    go true e t f i =
+    go : (t : Bool) → eqb (note / 64) 0 ≡ t → digit (note % 64) (pick t (set % 2 ^ 64) (pick (eqb (note / 64) 1) (set / 2 ^ 64) 0)) ≡ digit note set
+    go true e =
         let low : note % 64 ≡ note = omega (arith, eqb-true (note / 64) 0 e) in
-        sym (digit-low note 64 set (omega (arith, eqb-true (note / 64) 0 e))) ∙ ap (λ (n : ℕ). digit n (set % 2 ^ 64)) (sym low) ∙ i
-    go false e true f i =
-        let high : 64 + note % 64 ≡ note = omega (arith, eqb-true (note / 64) 1 f) in
-        ap (λ (n : ℕ). digit n set) (sym high) ∙ ap (λ (n : ℕ). n % 2) (sym (shr-shr set 64 (note % 64))) ∙ i
-    go false e false f i = absurd (none-in-empty (note % 64) i)
+        ap (λ (n : ℕ). digit n (set % 2 ^ 64)) low ∙ digit-low note 64 set (omega (arith, eqb-true (note / 64) 0 e))
+    go false e =
+        let one : note / 64 ≡ 1 = omega (arith, eqb-false (note / 64) 0 e) in
+        let high : 64 + note % 64 ≡ note = omega arith in
+        ap (digit (note % 64)) (sym (pick-true (set / 2 ^ 64) 0 (eq-eqb (note / 64) 1 one)))
+        ∙ ap (λ (n : ℕ). n % 2) (shr-shr set 64 (note % 64))
+        ∙ ap (λ (n : ℕ). digit n set) high
+
+in-set : (set note : ℕ) → hasNote note (notesOf set) ≡ true → digit note set ≡ 1
+in-set set note h = go (ltb note 128) refl (has-digit (note % 64) (notesPart (notesOf set) (note / 64)) h)
+  where
+    go : (t : Bool) → ltb note 128 ≡ t → digit (note % 64) (notesPart (notesOf set) (note / 64)) ≡ 1 → digit note set ≡ 1
+    go true e i = sym (note-digit set note (ltb-true note 128 e)) ∙ i
+    go false e i =
+        let past : 1 < note / 64 = omega (arith, ltb-false note 128 e) in
+        absurd (none-in-empty (note % 64) (ap (digit (note % 64)) (part-past (notesOf set) (note / 64) past) ∙ i))
 
 pub no-note : (note : ℕ) → hasNote note noNotes ≡ true → ⊥
 no-note note h = none-in-empty note (in-set 0 note h)
@@ -124,7 +134,18 @@ own-high tablet own f h l =
     ∙ ap notesOf whole
     ∙ own-set tablet own h l
 
--- "Tablet t is to own 16t to 16t+15": a note among a tablet's own is the tablet's
+-- "Tablet t is to own 16t to 16t+15": bit k of its own notes is note 16t + k
+pub own-at : (tablet own k : ℕ) → tablet ≤ 7 → k < 16 → hasNote (16 * tablet + k) (ownNotes tablet own) ≡ has k own
+unfolding ownNotes
+own-at tablet own k h l =
+    let x = own % 2 ^ 16 * 2 ^ (16 * tablet) in
+    ap (λ (n : ℕ). eqb n 1)
+    (note-digit (pick (ltb 7 tablet) 0 x) (16 * tablet + k) (omega arith)
+    ∙ ap (digit (16 * tablet + k)) (sym (pick-false 0 x (le-ltb 7 tablet h)))
+    ∙ ap (λ (n : ℕ). n % 2) (sym (shr-shr x (16 * tablet) k) ∙ ap (λ (n : ℕ). n / 2 ^ k) (shl-shr (own % 2 ^ 16) (16 * tablet)))
+    ∙ digit-low k 16 own l)
+
+-- a note among a tablet's own is the tablet's
 pub own-note : (tablet own note : ℕ) → hasNote note (ownNotes tablet own) ≡ true → tablet ≡ owner note
 unfolding ownNotes
 own-note tablet own note h = go (ltb 7 tablet) (in-set (pick (ltb 7 tablet) 0 (own % 2 ^ 16 * 2 ^ (16 * tablet))) note h)

@@ -1,4 +1,4 @@
--- What specs/Statements says of configurations, proved.
+-- What specs/Statements says, proved.
 use Prim.Native.Nat.{ℕ}
 use mathlib.Core.Bool.{true, false}
 use mathlib.Core.Path.{_≡_, ap, _∙_}
@@ -12,6 +12,7 @@ use Rattle.sets.proofs.MajorityLaws.{no-members-no-majority, members-only}
 use Rattle.books.specs.declared.Config.{Config}
 use Rattle.books.specs.Books.{membersOf, joinConfigs, hasMajority}
 use Rattle.books.specs.Statements.{Statements}
+use Rattle.books.proofs.NoteLaws.{own-at, own-note}
 
 never-returns : (c d : Config) (box : ℕ) → has box (c .removed) ≡ true → has box (membersOf (joinConfigs c d)) ≡ false
 never-returns c d box h =
@@ -36,4 +37,4 @@ unfolding majorityOf
 only-members c answered = members-only one (membersOf c) answered
 
 pub statements : Statements
-statements = record { never-returns = never-returns; no-members = no-members; only-members = only-members }
+statements = record { own-notes = own-at; owned = own-note; never-returns = never-returns; no-members = no-members; only-members = only-members }

@@ -1,12 +1,16 @@
--- What 01, "Books, boxes and containment", says of configurations beside what they are.
-use Prim.Native.Nat.{ℕ}
+-- What 01, "Books, boxes and containment", and request [1] say of notes and configurations beside what they are.
+use Prim.Native.Nat.{ℕ, _+_, _*_, _≤_, _<_}
 use mathlib.Core.Bool.{true, false}
 use mathlib.Core.Path.{_≡_}
 use Rattle.sets.specs.Sets.{has, shared}
 use Rattle.books.specs.declared.Config.{Config}
-use Rattle.books.specs.Books.{membersOf, joinConfigs, hasMajority}
+use Rattle.books.specs.Books.{owner, hasNote, ownNotes, membersOf, joinConfigs, hasMajority}
 
 pub record Statements : Type 0 where
+  -- "Tablet t is to own 16t to 16t+15", its lowest number having weight 1: of its own notes bit k is note 16t + k
+  pub own-notes : (tablet own k : ℕ) → tablet ≤ 7 → k < 16 → hasNote (16 * tablet + k) (ownNotes tablet own) ≡ has k own
+  -- and each note among them is the tablet's: "owner as number divided by 16, rounded down"
+  pub owned : (tablet own note : ℕ) → hasNote note (ownNotes tablet own) ≡ true → tablet ≡ owner note
   -- "Once removed, a number never returns": it is no member of whatever the configuration is joined with
   pub never-returns : (c d : Config) (box : ℕ) → has box (c .removed) ≡ true → has box (membersOf (joinConfigs c d)) ≡ false
   -- "With no members there is never a majority."
