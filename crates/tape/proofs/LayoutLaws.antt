@@ -1,20 +1,21 @@
 -- Laws of the layout. Of an edition they use no more than what it carries: a step takes 6 to 54 bits.
 use mathlib.Core.Path.{_≡_, refl, sym, ap, _∙_}
 use mathlib.Core.Logic.{_≢_}
-use Prim.Native.Nat.{ℕ, zero, suc, _+_, _-_, _^_, _≤_}
-use mathlib.Core.List.{List, [], _∷_}
+use Prim.Native.Nat.{ℕ, zero, suc, _+_, _^_, _≤_}
+use mathlib.Core.List.{List, [], _∷_, _++_}
 use mathlib.Core.Bool.{Bool, true, false, cond}
 use native.Mathlib.Omega.{arith}
-use lib.ListN.{take, drop, getD}
-use lib.Seq.{take-take, drop-drop}
+use lib.ListN.{length, take, drop, getD, length-drop, take-append-drop}
+use lib.Seq.{take-take, drop-drop, take-append-le, drop-append-le, length-take-le}
 use lib.Dec.{leb, eqb}
 use borrow.Author.Tests.{le-leb, leb-true, eqb-true}
 use Rattle.tape.specs.Bits.{num, bits, fieldAt}
 use Rattle.tape.specs.Edition.{Field, span, stepWidth, fits, every, Edition, firstEdition, editionOf}
-use Rattle.tape.specs.Layout.{fields, width, fieldsAllowed, legal, numbers, fieldsOf, noField, layoutOf}
+use Rattle.tape.specs.Layout.{fields, width, fieldsAllowed, legal, numbers, fieldsOf, noField, full, boundWith, boundOf, layoutOf}
 use Rattle.tape.specs.declared.edition.Edition.{Edition as InCode}
+use Rattle.tape.specs.declared.layout.Bound.{Bound}
 use Rattle.tape.specs.declared.edition.Edition.the-variants as E
-use Rattle.tape.proofs.BitLaws.{length-bits, num-take-lt, drop-take}
+use Rattle.tape.proofs.BitLaws.{length-bits, num-take-lt}
 use Rattle.tape.proofs.WordLaws.{field-inside}
 
 -- a choice has what both of its sides have
@@ -53,6 +54,10 @@ span-most [] zero = omega arith
 span-most [] (suc i) = omega arith
 span-most (x ∷ xs) zero = omega arith
 span-most (x ∷ xs) (suc i) = omega (arith, span-most xs i)
+
+pub step-span : (xs : List Field) → stepWidth xs ≢ 0 → stepWidth xs ≡ 3 + span xs
+step-span [] h = absurd (h refl)
+step-span (x ∷ xs) h = refl
 
 -- the number in a field, by its place in the table
 numbers-at : (xs : List Field) (f : List Bool) (i : ℕ) → getD (numbers xs f) i 0 ≡ num (take (getD xs i noField .width) (drop (span (take i xs)) f))
@@ -101,69 +106,100 @@ module _ (ed : Edition) where
       ∙ sym (numbers-at xs (drop 3 (bits 64 x)) i)
       ∙ ap (λ n. getD (numbers (fields ed n) (drop 3 (bits 64 x))) i 0) e
 
--- a field may hold whatever fits
-full : Field → Bool
-full x = cond (eqb (x .least) 0) (eqb (2 ^ (x .width)) (suc (x .most))) false
-
+-- each of some fields may hold whatever fits
 allFull : List Field → Bool
 allFull [] = true
 allFull (x ∷ xs) = cond (full x) (allFull xs) false
 
--- of some fields only the first has a bound of its own
-plain : List Field → Bool
-plain [] = true
-plain (x ∷ xs) = cond (eqb (x .least) 0) (allFull xs) false
+-- of some fields at most one may not
+oneBound : List Field → Bool
+oneBound [] = true
+oneBound (x ∷ xs) = cond (full x) (oneBound xs) (allFull xs)
 
-in-full : (xs : List Field) (f : List Bool) → allFull xs ≡ true → fieldsAllowed xs f ≡ true
-unfolding allFull full fieldsAllowed
-in-full [] f h = refl
-in-full (x ∷ xs) f h =
-    let a = both (full x) h in
-    let b = both (eqb (x .least) 0) (a .0) in
+-- a field that may hold whatever fits does not matter
+full-next : (x : Field) (xs : List Field) (f : List Bool) → full x ≡ true → fieldsAllowed (x ∷ xs) f ≡ fieldsAllowed xs (drop (x .width) f)
+unfolding fieldsAllowed
+full-next x xs f h =
+    let b = both (eqb (x .least) 0) h in
     let c : x .least ≡ 0 = eqb-true _ _ (b .0) in
-    let d : 2 ^ (x .width) ≡ suc (x .most) = eqb-true _ _ (b .1) in
+    let d : suc (x .most) ≡ 2 ^ (x .width) = eqb-true _ _ (b .1) in
     let l : x .least ≤ num (take (x .width) f) = omega arith in
     let m : num (take (x .width) f) ≤ x .most = omega (arith, num-take-lt f (x .width)) in
-    simp (le-leb _ _ l, le-leb _ _ m) (in-full xs (drop (x .width) f) (a .1))
+    simp (le-leb _ _ l, le-leb _ _ m)
 
-in-plain : (xs : List Field) (f : List Bool) → plain xs ≡ true → fieldsAllowed xs f ≡ leb (num (take (layoutOf xs .first) f)) (layoutOf xs .most)
-unfolding plain fieldsAllowed num
-in-plain [] f h = refl
-in-plain (x ∷ xs) f h =
-    let a = both (eqb (x .least) 0) h in
-    let c : x .least ≡ 0 = eqb-true _ _ (a .0) in
-    let l : x .least ≤ num (take (x .width) f) = omega arith in
-    simp (le-leb _ _ l, in-full xs (drop (x .width) f) (a .1)) (go (leb (num (take (x .width) f)) (x .most)))
+in-full : (xs : List Field) (f : List Bool) → allFull xs ≡ true → fieldsAllowed xs f ≡ true
+unfolding allFull fieldsAllowed
+in-full [] f h = refl
+in-full (x ∷ xs) f h = let b = both (full x) h in full-next x xs f (b .0) ∙ in-full xs (drop (x .width) f) (b .1)
+
+-- a number is one that a bound allows
+abbrev pub within : Bound → ℕ → Bool
+within b n = cond (leb (b .least) n) (leb n (b .most)) false
+
+-- the field of some bits that a bound is about holds such a number
+abbrev kept : Bound → List Bool → Bool
+kept b f = within b (num (take (b .width) (drop (b .from) f)))
+
+-- some fields, from a bit on, are judged by their bound
+in-bound : (xs : List Field) (from : ℕ) (f : List Bool) → oneBound xs ≡ true → fieldsAllowed xs (drop from f) ≡ kept (boundOf from xs) f
+unfolding oneBound fieldsAllowed num
+in-bound [] from f h = refl
+in-bound (x ∷ xs) from f h = go (full x) refl h (in-bound xs (from + x .width) f)
   where
-    go : (t : Bool) → cond t true false ≡ t
-    go true = refl
-    go false = refl
+    n : ℕ
+    n = num (take (x .width) (drop from f))
 
--- the fields of the code's editions are such
-rows-plain : (e : InCode) (k : ℕ) → plain (fields (editionOf e) k) ≡ true
-unfolding plain allFull full
-rows-plain E.First k = every-at plain refl (firstEdition .rows) refl k
+    itself : (t : Bool) → cond t true false ≡ t
+    itself true = refl
+    itself false = refl
 
-first-fits : (xs : List Field) → stepWidth xs ≢ 0 → 3 + layoutOf xs .first ≤ stepWidth xs
-first-fits [] h = absurd (h refl)
-first-fits (x ∷ xs) h = omega arith
+    go : (b : Bool) → full x ≡ b → cond b (oneBound xs) (allFull xs) ≡ true
+        → (oneBound xs ≡ true → fieldsAllowed xs (drop (from + x .width) f) ≡ kept (boundOf (from + x .width) xs) f)
+        → fieldsAllowed (x ∷ xs) (drop from f) ≡ kept (cond b (boundOf (from + x .width) xs) (boundWith from (x .width) (x .least) (x .most))) f
+    go true e h ih = full-next x xs (drop from f) e ∙ ap (fieldsAllowed xs) (drop-drop (x .width) from f) ∙ ih h
+    go false e h ih =
+        ap (λ t. cond (leb (x .least) n) (cond (leb n (x .most)) t false) false) (in-full xs (drop (x .width) (drop from f)) h)
+        ∙ ap (λ t. cond (leb (x .least) n) t false) (itself (leb n (x .most)))
 
--- a step word of such an edition is judged by its first field
-pub legal-first : (e : InCode) (x k : ℕ) → k ≡ num (take 3 (bits 64 x)) → width (editionOf e) k ≢ 0
-    → leb (fieldAt x 3 (layoutOf (fields (editionOf e) k) .first)) (layoutOf (fields (editionOf e) k) .most) ≡ legal (editionOf e) (take (width (editionOf e) k) (bits 64 x))
+bound-inside : (xs : List Field) (from : ℕ) → boundOf from xs .from + boundOf from xs .width ≤ from + span xs
+bound-inside [] from = omega arith
+bound-inside (x ∷ xs) from = cond-has (λ (b : Bound). b .from + b .width ≤ from + span (x ∷ xs)) (full x) (λ _. omega (arith, bound-inside xs (from + x .width))) (λ _. omega arith)
+
+-- fields are judged by their own bits
+allowed-front : (xs : List Field) (f r : List Bool) → span xs ≤ length f → fieldsAllowed xs (f ++ r) ≡ fieldsAllowed xs f
+unfolding fieldsAllowed
+allowed-front [] f r h = refl
+allowed-front (x ∷ xs) f r h =
+    let w : x .width ≤ length f = omega arith in
+    simp (take-append-le (x .width) f r w, drop-append-le (x .width) f r w, allowed-front xs (drop (x .width) f) r (rw length-drop (omega arith)))
+
+-- a step's bits are judged by its fields in the word
+pub legal-fields : (ed : Edition) (x k : ℕ) → k ≡ num (take 3 (bits 64 x)) → width ed k ≢ 0
+    → legal ed (take (width ed k) (bits 64 x)) ≡ fieldsAllowed (fields ed k) (drop 3 (bits 64 x))
 unfolding legal
-legal-first edition x k e h =
-    let ed = editionOf edition in
+legal-fields ed x k e h =
     let b = bits 64 x in
     let w = width ed k in
-    let r = layoutOf (fields ed k) in
-    let l = width-least ed k h in
-    let m = first-fits (fields ed k) h in
-    let s : w ≡ 3 + (w - 3) = omega arith in
-    let g : num (take 3 (take w b)) ≡ k = ap num (take-take 3 w b (omega arith)) ∙ sym e in
-    let d : take (r .first) (drop 3 (take w b)) ≡ take (r .first) (drop 3 b) =
-    ap (λ n. take (r .first) (drop 3 (take n b))) s
-    ∙ ap (take (r .first)) (drop-take 3 (w - 3) b (rw length-bits (omega arith)))
-    ∙ take-take (r .first) (w - 3) (drop 3 b) (omega arith) in
-    ap (λ n. leb n (r .most)) (field-inside x 3 (r .first) (omega (arith, width-most ed k)) ∙ ap num (sym d))
-    ∙ sym (ap (λ n. fieldsAllowed (fields ed n) (drop 3 (take w b))) g ∙ in-plain (fields ed k) (drop 3 (take w b)) (rows-plain edition k))
+    let xs = fields ed k in
+    let f = take w b in
+    let six = width-least ed k h in
+    let long : length f ≡ w = length-take-le w b (rw length-bits (omega (arith, width-most ed k))) in
+    let same : num (take 3 f) ≡ k = ap num (take-take 3 w b (omega arith)) ∙ sym e in
+    ap (λ n. fieldsAllowed (fields ed n) (drop 3 f)) same
+    ∙ sym (allowed-front xs (drop 3 f) (drop w b) (rw length-drop (omega (arith, step-span xs h))))
+    ∙ ap (fieldsAllowed xs) (sym (drop-append-le 3 f (drop w b) (omega arith)) ∙ ap (drop 3) (take-append-drop w b))
+
+-- of the fields of the code's editions at most one has a bound of its own
+rows-bound : (e : InCode) (k : ℕ) → oneBound (fields (editionOf e) k) ≡ true
+unfolding oneBound allFull
+rows-bound E.First k = every-at oneBound refl (firstEdition .rows) refl k
+
+-- a step word of such an edition is judged by its bound
+pub legal-bound : (e : InCode) (x k : ℕ) → k ≡ num (take 3 (bits 64 x)) → width (editionOf e) k ≢ 0
+    → within (boundOf 3 (fields (editionOf e) k)) (fieldAt x (boundOf 3 (fields (editionOf e) k) .from) (boundOf 3 (fields (editionOf e) k) .width))
+    ≡ legal (editionOf e) (take (width (editionOf e) k) (bits 64 x))
+legal-bound e x k n h =
+    let xs = fields (editionOf e) k in
+    let b = boundOf 3 xs in
+    ap (within b) (field-inside x (b .from) (b .width) (omega (arith, bound-inside xs 3, span-fits (editionOf e) k)))
+    ∙ sym (legal-fields (editionOf e) x k n h ∙ in-bound xs 3 (bits 64 x) (rows-bound e k))

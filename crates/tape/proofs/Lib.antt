@@ -7,6 +7,7 @@ pub mod LayoutLaws
 pub mod MarkLaws
 pub mod ReadingLaws
 pub mod StepLaws
+pub mod StepWords
 pub mod WritingLaws
 pub mod TapeLaws
 pub mod PromiseLaws

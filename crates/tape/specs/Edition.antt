@@ -1,4 +1,4 @@
--- What an edition of the tape is, in one value: the fields of each kind of step, the end mark, and the head (01, "The tape").
+-- What an edition of the tape is, in one value: the fields of each kind of step, the end mark, and the head (01, "The tape"; 02, [1]).
 -- Reading, writing and the round trip are stated over any edition. A further edition is one more value here, and a case of `editionOf`.
 use Prim.Native.Nat.{ℕ, _+_, _≤_}
 use mathlib.Core.Path.{_≡_, refl}
@@ -63,9 +63,13 @@ pub record Edition : Type 0 where
 abbrev tablet : Field
 tablet = field 3 0 7
 
--- "own notes 8"
-abbrev notes : Field
-notes = field 8 0 255
+-- "own notes 8", which are "the first eight of the sixteen"
+abbrev firstEight : Field
+firstEight = field 8 0 255
+
+-- "16 notes"; "a long Ask whose last eight notes are all absent", and so below 256, "is not a tape step"
+abbrev sixteen : Field
+sixteen = field 16 256 65535
 
 -- "added 16", "removed 16"
 abbrev boxes : Field
@@ -79,10 +83,18 @@ slot = field 7 0 127
 abbrev device : Field
 device = field 5 0 23
 
--- Ask, Advance, Deliver, Lose, Repeat, Stop; "Kind 7 ends it"; "First the 16-bit set of first boxes, then steps"
+-- Ask, Advance, Deliver, Lose, Repeat, Stop; "Kind 6 on the tape becomes a long Ask of 54 bits"; "Kind 7 ends it"; "First the 16-bit set of first boxes, then steps"
 abbrev pub firstEdition : Edition
 firstEdition = record {
-  rows = (tablet ∷ notes ∷ boxes ∷ boxes ∷ []) ∷ (tablet ∷ []) ∷ (slot ∷ []) ∷ (slot ∷ []) ∷ (slot ∷ []) ∷ (device ∷ []) ∷ [];
+  rows =
+      (tablet ∷ firstEight ∷ boxes ∷ boxes ∷ [])
+      ∷ (tablet ∷ [])
+      ∷ (slot ∷ [])
+      ∷ (slot ∷ [])
+      ∷ (slot ∷ [])
+      ∷ (device ∷ [])
+      ∷ (tablet ∷ sixteen ∷ boxes ∷ boxes ∷ [])
+      ∷ [];
   mark = true ∷ true ∷ true ∷ [];
   boxes-at = 0;
   head = 16;

@@ -1,11 +1,12 @@
 -- The layout of a step: "each a 3-bit kind and its fields" (01, "The tape"). One table, of an edition, for reading and for writing.
-use Prim.Native.Nat.{ℕ, _+_}
+use Prim.Native.Nat.{ℕ, suc, _+_, _^_}
 use mathlib.Core.List.{List, [], _∷_}
 use mathlib.Core.Bool.{Bool, true, false, cond}
 use lib.ListN.{take, drop, getD}
-use lib.Dec.{leb}
+use lib.Dec.{leb, eqb}
 use Rattle.tape.specs.Bits.{num, bits}
 use Rattle.tape.specs.Edition.{Field, field, stepWidth, Edition}
+use Rattle.tape.specs.declared.layout.Bound.{Bound}
 use Rattle.tape.specs.declared.layout.Layout.{Layout}
 use Rattle.tape.specs.declared.Fields.{Fields}
 
@@ -32,9 +33,13 @@ unfoldable pub numbers : List Field → List Bool → List ℕ
 numbers [] f = []
 numbers (x ∷ xs) f = num (take (x .width) f) ∷ numbers xs (drop (x .width) f)
 
+-- the kind of a word
+abbrev pub kindOf : ℕ → ℕ
+kindOf x = num (take 3 (bits 64 x))
+
 -- the kind of a step word, and the numbers in its fields
 unfoldable pub fieldsOf : Edition → ℕ → List ℕ
-fieldsOf ed x = num (take 3 (bits 64 x)) ∷ numbers (fields ed (num (take 3 (bits 64 x)))) (drop 3 (bits 64 x))
+fieldsOf ed x = kindOf x ∷ numbers (fields ed (kindOf x)) (drop 3 (bits 64 x))
 
 -- the same as the code has it, 0 for a field that a kind has not
 unfoldable pub fieldsIn : Edition → ℕ → Fields
@@ -46,12 +51,25 @@ fieldsIn ed x = record {
   fourth = getD (fieldsOf ed x) 4 0;
 }
 
--- a layout as the code has it: the bits of the step, those of each field, and the most that the first may hold
-abbrev pub layoutWith : ℕ → ℕ → ℕ → ℕ → ℕ → Layout
-layoutWith a b c d m = record { width = 3 + a + b + c + d; first = a; second = b; third = c; fourth = d; most = m }
-
 abbrev pub noField : Field
 noField = field 0 0 0
+
+-- a field may hold whatever fits
+abbrev pub full : Field → Bool
+full x = cond (eqb (x .least) 0) (eqb (suc (x .most)) (2 ^ (x .width))) false
+
+-- a field as the code has it: the bit that it begins at, how many bits it has, and the numbers it may hold
+abbrev pub boundWith : ℕ → ℕ → ℕ → ℕ → Bound
+boundWith from w a b = record { from = from; width = w; least = a; most = b }
+
+-- the first of some fields, from a bit on, that may not hold whatever fits; a field of no bits where each may
+abbrev pub boundOf : ℕ → List Field → Bound
+boundOf from [] = boundWith 0 0 0 0
+boundOf from (x ∷ xs) = cond (full x) (boundOf (from + x .width) xs) (boundWith from (x .width) (x .least) (x .most))
+
+-- a layout as the code has it: the bits of the step, those of each field, and the bound
+abbrev pub layoutWith : ℕ → ℕ → ℕ → ℕ → Bound → Layout
+layoutWith a b c d bound = record { width = 3 + a + b + c + d; first = a; second = b; third = c; fourth = d; bound = bound }
 
 -- the fields of a kind as such a layout
 abbrev pub layoutOf : List Field → Layout
@@ -61,5 +79,5 @@ layoutOf xs = record {
   second = getD xs 1 noField .width;
   third = getD xs 2 noField .width;
   fourth = getD xs 3 noField .width;
-  most = getD xs 0 noField .most;
+  bound = boundOf 3 xs;
 }

@@ -1,15 +1,15 @@
--- What holds of the tape's calls beside what each does: a contract settles its result, a tape reads back as written and writes back as read,
--- and the tape check gives reading's number (01, "How far a contract must reach", "The tape", "Numbers a caller gets back"). Proved in proofs/Statements.
+-- What holds of the tape's calls beside what each does: a contract settles its result, a step word is settled by its fields, a tape reads back as
+-- written and writes back as read, and the tape check gives reading's number (01, "How far a contract must reach", "The tape", "Numbers a caller gets back"). Proved in proofs/Statements.
 use mathlib.Core.Path.{_≡_}
 use mathlib.Core.Logic.{_≢_}
-use Prim.Native.Nat.{ℕ, _+_, _^_, _≤_, _<_}
+use Prim.Native.Nat.{ℕ, suc, _+_, _^_, _≤_, _<_}
 use mathlib.Core.List.{List, _++_}
 use mathlib.Core.Bool.{Bool, true}
-use lib.ListN.{length, take, drop}
+use lib.ListN.{length, take, drop, getD}
 use Rattle.sets.specs.Settles.{Settles}
 use Rattle.tape.specs.Bits.{num, bitsOf, Bytes}
-use Rattle.tape.specs.Edition.{Edition, firstEdition}
-use Rattle.tape.specs.Layout.{fieldsIn}
+use Rattle.tape.specs.Edition.{Field, Edition, firstEdition}
+use Rattle.tape.specs.Layout.{fields, kindOf, fieldsOf, fieldsIn, noField}
 use Rattle.tape.specs.Reading.{given, readIn, readTape, firstBoxes}
 use Rattle.tape.specs.Writing.{isStep, allSteps, size, tapeWith, writeTape}
 use Rattle.tape.specs.Promises.{recorded, readAnswer, CheckPromise, ReadPromise, WritePromise}
@@ -27,6 +27,20 @@ pub record Settled : Type 0 where
   pub write-tape : (first : ℕ) (words buf : List ℕ) → Settles (λ (r : Written × List ℕ). WritePromise first words buf (r .0) (r .1))
   pub is-step : (word : ℕ) → Settles (λ (r : Bool). r ≡ isStep firstEdition word)
   pub fields-of : (word : ℕ) → Settles (λ (r : Fields). r ≡ fieldsIn firstEdition word)
+
+-- ---- A step word in any edition
+
+-- a number that a field may hold
+pub record Within (x : Field) (n : ℕ) : Type 0 where
+  pub least : x .least ≤ n
+  pub most : n ≤ x .most
+  pub fits : n < 2 ^ (x .width)
+
+pub record StepWords (ed : Edition) : Type 0 where
+  -- its kind and the numbers in its fields settle it: no two step words have the same
+  pub settled-by-fields : (x y : ℕ) → isStep ed x ≡ true → isStep ed y ≡ true → fieldsOf ed x ≡ fieldsOf ed y → x ≡ y
+  -- each of its fields holds a number that it may hold
+  pub fields-within : (x i : ℕ) → isStep ed x ≡ true → Within (getD (fields ed (kindOf x)) i noField) (getD (fieldsOf ed x) (suc i) 0)
 
 -- ---- The round trip in any edition: a head with first boxes, and steps that fit
 
@@ -63,6 +77,7 @@ CheckReads = (tape row : List ℕ) (k : ℕ) (r : Read) (after : List ℕ) → (
 
 pub record Statements : Type 0 where
   pub settled : Settled
+  pub step-words : (ed : Edition) → StepWords ed
   pub any-edition : (ed : Edition) → AnyEdition ed
   pub round-trip : RoundTrip
   pub check-reads : CheckReads

@@ -10,21 +10,52 @@ use crate::bits::field;
 use crate::bits::top;
 use crate::edition::Edition;
 
-// How many bits a step takes with its kind, 0 for no step; the bits of each of its fields, in their order;
-// and the most that its first field may hold, where the others may hold whatever fits.
+// The one field of a step that may not hold whatever fits: its first bit and its bits, and the numbers that it may hold.
+pub(crate) struct Bound {
+    pub(crate) from: usize,
+    pub(crate) width: usize,
+    pub(crate) least: u64,
+    pub(crate) most: u64,
+}
+
+// How many bits a step takes with its kind, 0 for no step; the bits of each of its fields, in their order; and its bound.
 pub(crate) struct Layout {
     pub(crate) width: usize,
     pub(crate) first: usize,
     pub(crate) second: usize,
     pub(crate) third: usize,
     pub(crate) fourth: usize,
-    pub(crate) most: u64,
+    pub(crate) bound: Bound,
 }
 
+// Each field may hold whatever fits: a field of no bits holds 0.
+const ANYTHING: Bound = Bound {
+    from: 0,
+    width: 0,
+    least: 0,
+    most: 0,
+};
+
+// Stop: no device from 24 on.
+const DEVICES: Bound = Bound {
+    from: 3,
+    width: 5,
+    least: 0,
+    most: 23,
+};
+
+// Long Ask: some note of the last eight.
+const SIXTEEN_NOTES: Bound = Bound {
+    from: 6,
+    width: 16,
+    least: 256,
+    most: 65535,
+};
+
 // A step of so many fields: its width is their sum with the 3 bits of the kind.
-fn layout_with(first: usize, second: usize, third: usize, fourth: usize, most: u64) -> Layout
+fn layout_with(first: usize, second: usize, third: usize, fourth: usize, bound: Bound) -> Layout
     requires { ⌜ first + second + third + fourth ≤ 61 ⌝ }
-    ensures { λ r. ⌜ r ≡ layoutWith first second third fourth most ⌝ }
+    ensures { λ r. ⌜ r ≡ layoutWith first second third fourth bound ⌝ }
 {
     Layout {
         width: 3 + first + second + third + fourth,
@@ -32,7 +63,7 @@ fn layout_with(first: usize, second: usize, third: usize, fourth: usize, most: u
         second: second,
         third: third,
         fourth: fourth,
-        most: most,
+        bound: bound,
     }
 }
 
@@ -42,15 +73,17 @@ fn first_layout(kind: u64) -> Layout
 {
     match kind {
         // Ask: tablet, own notes, added, removed.
-        0 => layout_with(3, 8, 16, 16, 7),
+        0 => layout_with(3, 8, 16, 16, ANYTHING),
         // Advance: tablet.
-        1 => layout_with(3, 0, 0, 0, 7),
+        1 => layout_with(3, 0, 0, 0, ANYTHING),
         // Deliver, Lose, Repeat: slot.
-        2 => layout_with(7, 0, 0, 0, 127),
-        3 => layout_with(7, 0, 0, 0, 127),
-        4 => layout_with(7, 0, 0, 0, 127),
+        2 => layout_with(7, 0, 0, 0, ANYTHING),
+        3 => layout_with(7, 0, 0, 0, ANYTHING),
+        4 => layout_with(7, 0, 0, 0, ANYTHING),
         // Stop: device.
-        5 => layout_with(5, 0, 0, 0, 23),
+        5 => layout_with(5, 0, 0, 0, DEVICES),
+        // Long Ask: tablet, own notes, added, removed.
+        6 => layout_with(3, 16, 16, 16, SIXTEEN_NOTES),
         // No step.
         _ => Layout {
             width: 0,
@@ -58,7 +91,7 @@ fn first_layout(kind: u64) -> Layout
             second: 0,
             third: 0,
             fourth: 0,
-            most: 0,
+            bound: ANYTHING,
         },
     }
 }
@@ -78,7 +111,12 @@ pub(crate) fn fields_allowed(edition: Edition, kind: u64, word: u64) -> bool
     ensures { λ r. ⌜ r ≡ legal (editionOf edition) (take (width (editionOf edition) kind) (bits 64 word)) ⌝ }
 {
     let l = layout_of(edition, kind);
-    field(word, 3, l.first) <= l.most
+    let bound = l.bound;
+    let number = field(word, bound.from, bound.width);
+    if number < bound.least {
+        return false;
+    }
+    number <= bound.most
 }
 
 // How many bits the step in a word takes, or 0 for a word that is none.

@@ -13,7 +13,8 @@ fn main() {
     reading::first_boxes();
     reading::cut_short();
     reading::no_end();
-    reading::kind_6();
+    reading::long_ask_cut_short();
+    reading::last_eight_notes();
     reading::device_24();
     reading::bit_set();
     reading::further_byte();
@@ -24,6 +25,7 @@ fn main() {
     reading::last_of_two();
     writing::first_boxes();
     writing::kinds();
+    writing::last_eight_notes();
     writing::devices();
     writing::bits_below();
     writing::longest();

@@ -1,6 +1,7 @@
 // Examples of reading, in the order of its numbers: 11; 13 under three bytes; 12; 13 or 14 at the first step that has it; 15; 16.
 use crate::reads::read;
 use crate::reads::read_long;
+use crate::reads::read_ten;
 use crate::said::say;
 
 pub(crate) fn longest() {
@@ -38,10 +39,22 @@ pub(crate) fn no_end() {
     read(4, 0x00072380, 3);
 }
 
-pub(crate) fn kind_6() {
-    say(b"14 read kind 6, and kind 5\n");
+pub(crate) fn long_ask_cut_short() {
+    say(
+        b"13 read a long Ask of which 8 bits are there, one of which 52 are there behind two Advances, and a whole one\n",
+    );
     read(3, 0x0007c0, 3);
-    read(4, 0x0007a0e0, 3);
+    read_ten(0x208c004000000000);
+    read_ten(0xc004000000000380);
+}
+
+pub(crate) fn last_eight_notes() {
+    say(
+        b"14 read a long Ask with its first eight notes alone, with none, and with the first of its last eight\n",
+    );
+    read_ten(0xc003fc0000000380);
+    read_ten(0xc000000000000380);
+    read_ten(0xc004000000000380);
 }
 
 pub(crate) fn device_24() {
@@ -88,11 +101,11 @@ pub(crate) fn first_of_two() {
 
 pub(crate) fn first_step() {
     say(
-        b"13 or 14 at the first step that has it: 14 then 13, 13 although its device would be over 23, and kind 6 with 4 bits\n",
+        b"13 or 14 at the first step that has it: 14 then 13, 13 although its device would be over 23, and although its last eight notes would be absent\n",
     );
     read(3, 0x0007b8, 3);
     read(4, 0x0007402e, 3);
-    read(5, 0x000740100c, 3);
+    read(8, 0x0007c003fc000000, 3);
 }
 
 pub(crate) fn last_of_two() {

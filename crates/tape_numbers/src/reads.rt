@@ -83,6 +83,34 @@ pub(crate) fn read(length: usize, number: u64, places: usize) {
     say_row(row[0], row[1], row[2]);
 }
 
+// The tape of first boxes 0, 1 and 2 and the eight bytes of a number behind them.
+fn ten_bytes(part: u64) -> [u8; 10] {
+    let bytes = bytes_of(part);
+    [
+        0x00,
+        0x07,
+        bytes[0],
+        bytes[1],
+        bytes[2],
+        bytes[3],
+        bytes[4],
+        bytes[5],
+        bytes[6],
+        bytes[7],
+    ]
+}
+
+// Reads such a tape, in which a long Ask and the end mark have room, into a row of three.
+pub(crate) fn read_ten(part: u64) {
+    say(b"  0007");
+    say_hexadecimal(part, 16);
+    let bytes = ten_bytes(part);
+    let mut row = [7u64; 3];
+    say_places(3);
+    read_into(&bytes, &mut row);
+    say_row(row[0], row[1], row[2]);
+}
+
 // A tape of so many bytes: first boxes, Stop of device 0 in each byte, and the end mark in the last one.
 fn long_tape(size: usize, first: u8) -> [u8; 4097]
     ensures { λ r. ⌜ 4097 ≡ length r ⌝ }

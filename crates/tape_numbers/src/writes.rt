@@ -52,6 +52,36 @@ pub(crate) fn write(first: u16, word: u64, size: usize) {
     say_buffer(buffer);
 }
 
+fn say_ten(bytes: [u8; 10]) {
+    say(b", buffer ");
+    say_hexadecimal(bytes[0] as u64, 2);
+    say_hexadecimal(bytes[1] as u64, 2);
+    say_hexadecimal(
+        number_of([
+            bytes[2],
+            bytes[3],
+            bytes[4],
+            bytes[5],
+            bytes[6],
+            bytes[7],
+            bytes[8],
+            bytes[9],
+        ]),
+        16,
+    );
+    say(b"\n");
+}
+
+// Writes one word into a buffer of ten bytes, all of which a long Ask takes.
+pub(crate) fn write_ten(first: u16, word: u64) {
+    say_word(first, word);
+    let words = [word];
+    let mut buffer = [0x55u8; 10];
+    say_size(10);
+    say_written(tape::write_tape(first, &words, &mut buffer));
+    say_ten(buffer);
+}
+
 // So many words: Stop of device 0 in each, and this as the last one.
 fn long_row(count: usize, last: u64) -> [u64; 4094]
     ensures { λ r. ⌜ 4094 ≡ length r ⌝ }

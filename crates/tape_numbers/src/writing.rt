@@ -2,11 +2,12 @@
 use crate::said::say;
 use crate::writes::write;
 use crate::writes::write_long;
+use crate::writes::write_ten;
 
-// Words: Stop of device 0, and one of kind 6, which is no step.
+// Words: Stop of device 0, and a long Ask with no note, which is no step.
 const STOP: u64 = 0xa000000000000000;
 
-const KIND_6: u64 = 0xc000000000000000;
+const NO_NOTE: u64 = 0xc000000000000000;
 
 pub(crate) fn first_boxes() {
     say(b"12 write no first box, and first box 0 or 15\n");
@@ -16,10 +17,18 @@ pub(crate) fn first_boxes() {
 }
 
 pub(crate) fn kinds() {
-    say(b"14 write kind 6, the end mark, and kind 5\n");
-    write(0x0007, KIND_6, 8);
+    say(b"14 write the end mark, and kind 5\n");
     write(0x0007, 0xe000000000000000, 8);
     write(0x0007, STOP, 8);
+}
+
+pub(crate) fn last_eight_notes() {
+    say(
+        b"14 write a long Ask with its first eight notes alone, with none, and with the first of its last eight\n",
+    );
+    write_ten(0x0007, 0xc003fc0000000000);
+    write_ten(0x0007, NO_NOTE);
+    write_ten(0x0007, 0xc004000000000000);
 }
 
 pub(crate) fn devices() {
@@ -58,8 +67,8 @@ pub(crate) fn long_buffers() {
 
 pub(crate) fn first_of_two() {
     say(b"12 goes before 14, 14 before 11, 11 before 16, 14 before 16\n");
-    write(0, KIND_6, 0);
-    write_long(4094, KIND_6, 0);
+    write(0, NO_NOTE, 0);
+    write_long(4094, NO_NOTE, 0);
     write_long(4094, STOP, 0);
-    write(0x0007, KIND_6, 0);
+    write(0x0007, NO_NOTE, 0);
 }

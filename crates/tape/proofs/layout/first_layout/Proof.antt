@@ -2,6 +2,7 @@
 use borrow.Author.Needs.{needs}
 use native.Mathlib.Omega.{arith}
 use mathlib.Core.Path.{_≡_, sym, ap, _∙_}
+use mathlib.Core.Logic.{_≢_}
 use Prim.Native.Nat.{ℕ, _≤_}
 use mathlib.Core.List.{[]}
 use lib.ListN.{List·getD-eq-default}
@@ -10,8 +11,8 @@ use Rattle.tape.specs.Layout.{fields, layoutOf}
 use Rattle.tape.proofs.layout.first_layout.Statement.{statement}
 use Rattle.tape.proofs.layout.first_layout.Tie as tie
 
-none : (k : ℕ) → 6 ≤ k → layoutOf [] ≡ layoutOf (fields firstEdition k)
-none k h = ap layoutOf (sym (List·getD-eq-default (firstEdition .rows) [] h))
+none : (k : ℕ) → 6 ≤ k → k ≢ 6 → layoutOf [] ≡ layoutOf (fields firstEdition k)
+none k h n = let l : 7 ≤ k = omega arith in ap layoutOf (sym (List·getD-eq-default (firstEdition .rows) [] l))
 
 layout-with-requires : tie.Need-layout-with-requires
 layout-with-requires c κs = search needs
@@ -49,10 +50,16 @@ layout-with-requires-6 c κs = search needs
 returns-6 : tie.Need-returns-6
 returns-6 c = c .layout-with6 .ensures ∙ sym (ap (λ k. layoutOf (fields firstEdition k)) (c .before .match .keys6))
 
+layout-with-requires-7 : tie.Need-layout-with-requires-7
+layout-with-requires-7 c κs = search needs
+
 returns-7 : tie.Need-returns-7
-returns-7 c =
+returns-7 c = c .layout-with7 .ensures ∙ sym (ap (λ k. layoutOf (fields firstEdition k)) (c .before .match .keys7))
+
+returns-8 : tie.Need-returns-8
+returns-8 c =
     let r = c .match .rest in
-    none (c .before .args .kind) (omega (arith, r .1, r .0 .1, r .0 .0 .1, r .0 .0 .0 .1, r .0 .0 .0 .0 .1, r .0 .0 .0 .0 .0 .1))
+    none (c .before .args .kind) (omega (arith, r .0 .1, r .0 .0 .1, r .0 .0 .0 .1, r .0 .0 .0 .0 .1, r .0 .0 .0 .0 .0 .1, r .0 .0 .0 .0 .0 .0 .1)) (r .1)
 
 pub first-layout-spec : {M : Type 1} → statement M
 first-layout-spec =
@@ -64,10 +71,12 @@ first-layout-spec =
     layout-with-requires-4
     layout-with-requires-5
     layout-with-requires-6
+    layout-with-requires-7
     returns
     returns-2
     returns-3
     returns-4
     returns-5
     returns-6
-    returns-7)
+    returns-7
+    returns-8)
