@@ -57,7 +57,8 @@ kind-fields : (k : ℕ) (b : List Bool) → width firstEdition k ≢ 0 → Withi
     → kindFields k b ≡ decodedFields (ofKind k b)
 unfolding kindFields ofKind decodedFields fieldsFor numbers
 kind-fields zero b h within =
-    ap (λ (k : ℕ). k ∷ numbers (fields firstEdition 0) b) (pick-true 0 6 (lt-ltb _ 256 (omega (arith, within .most))))
+    let most : getD (kindFields 0 b) 2 0 < 256 = omega (arith, within .most) in
+    ap (λ (k : ℕ). k ∷ numbers (fields firstEdition 0) b) (pick-true 0 6 (lt-ltb _ 256 most))
 kind-fields (suc zero) b h within = refl
 kind-fields (suc (suc zero)) b h within = refl
 kind-fields (suc (suc (suc zero))) b h within = refl
