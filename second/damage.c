@@ -32,7 +32,7 @@ static size_t position_of(const uint64_t *row, size_t which)
 {
     size_t at = 8 * HEADER_BYTES;
     for (size_t i = 0; i < which; i++)
-        at += bits_of_step(step_of_word(row[i]).kind);
+        at += bits_of_step(step_of_word(row[i]));
     return at;
 }
 

@@ -75,13 +75,13 @@ static void hold_new_messages(Maker *maker, const bool before[SLOTS])
 static bool emit(Maker *maker, Step step)
 {
     bool before[SLOTS];
-    if (maker->bits + bits_of_step(step.kind) + END_BITS > maker->style.bits)
+    if (maker->bits + bits_of_step(step) + END_BITS > maker->style.bits)
         return false;
     for (unsigned slot = 0; slot < SLOTS; slot++)
         before[slot] = maker->run.slots[slot].kind != NO_MESSAGE;
     if (step.kind == DELIVER || step.kind == LOSE)
         before[step.target] = false;
-    maker->bits += bits_of_step(step.kind);
+    maker->bits += bits_of_step(step);
     maker->row[maker->steps++] = word_of_step(step);
     Number number = take_step_unscanned(&maker->run, step).number;
     maker->in_vain += step.kind == DELIVER && number != DONE;
