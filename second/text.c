@@ -6,7 +6,7 @@ static const char *const names[STEP_KINDS] = { "ASK", "ADV", "DLV", "LOS", "REP"
 const char *const step_words[STEP_KINDS] = { "ask", "advance", "deliver",
                                              "lose", "repeat", "stop" };
 
-static void print_notes(FILE *out, Notes notes)
+void print_notes(FILE *out, Notes notes)
 {
     fprintf(out, "%016" PRIx64 "%016" PRIx64, notes.high, notes.low);
 }
