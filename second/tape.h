@@ -15,8 +15,8 @@ enum {
     TAPE_STEPS = (8 * (TAPE_BYTES - HEADER_BYTES) - END_BITS) / 6
 };
 
-/* The kinds of a tape are those of steps, and two more: an Ask with one of its tablet's last
-   eight notes is a long Ask, every other one is kind 0. */
+/* The kinds on a tape are those of steps, then the long Ask, for an Ask with one of the tablet's
+   last eight notes and for no other, and the end mark. */
 enum { LONG_ASK = STEP_KINDS, END_MARK, TAPE_KINDS = END_MARK };
 
 /* A step as a 64-bit word has its tape bits at the top, zeros below. */
