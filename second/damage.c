@@ -81,7 +81,7 @@ static size_t spoil_a_step(Dice *dice, uint8_t *tape, size_t length)
     return length;
 }
 
-/* The tape ends within a long Ask, if it has one, behind the kind. */
+/* The tape ends within a long Ask, behind its kind, if there is one. */
 static size_t cut_a_long_ask(Dice *dice, const uint8_t *tape, size_t length)
 {
     size_t steps = 0;
@@ -89,8 +89,12 @@ static size_t cut_a_long_ask(Dice *dice, const uint8_t *tape, size_t length)
     size_t start = below(dice, (unsigned)steps);
     for (size_t i = 0; i < steps; i++) {
         size_t which = (start + i) % steps;
-        if (kind_of_word(row[which]) == LONG_ASK)
-            return (position_of(row, which) + 10) / 8 + below(dice, 6);
+        if (kind_of_word(row[which]) != LONG_ASK)
+            continue;
+        size_t at = position_of(row, which);
+        size_t fewest = (at + 3 + 7) / 8;
+        size_t most = (at + bits_of_step(step_of_word(row[which])) - 1) / 8;
+        return fewest + below(dice, (unsigned)(most - fewest) + 1);
     }
     return length;
 }

@@ -48,14 +48,14 @@ unsigned kind_of_word(uint64_t word)
 }
 
 /* Both Asks have the same fields; own notes are the first eight of the sixteen, or all. */
-static Step ask_of_word(uint64_t word, unsigned notes)
+static Step ask_of_word(uint64_t word, unsigned notes_width)
 {
     return (Step){
         .kind = ASK,
         .target = field(word, 3, 3),
-        .own_notes = (uint16_t)field(word, 6, notes),
-        .change.added = (uint16_t)field(word, 6 + notes, 16),
-        .change.removed = (uint16_t)field(word, 22 + notes, 16),
+        .own_notes = (uint16_t)field(word, 6, notes_width),
+        .change.added = (uint16_t)field(word, 6 + notes_width, 16),
+        .change.removed = (uint16_t)field(word, 22 + notes_width, 16),
     };
 }
 
@@ -97,8 +97,8 @@ uint64_t word_of_step(Step step)
     }
 }
 
-/* Whether a word's fields, where its kind and its zeros are in order, name no step: Stop of a
-   device over 23, or a long Ask whose last eight notes are all absent. */
+/* Words that have a kind and are no step all the same: Stop of a device over 23, and a long Ask
+   whose last eight notes are all absent. */
 static bool is_forbidden(uint64_t word)
 {
     switch (kind_of_word(word)) {

@@ -16,8 +16,8 @@ enum {
 };
 
 /* The kinds on a tape are those of steps, then the long Ask, for an Ask with one of the tablet's
-   last eight notes and for no other, and the end mark. */
-enum { LONG_ASK = STEP_KINDS, END_MARK, TAPE_KINDS = END_MARK };
+   last eight notes and for no other, and the end mark, which is no step. */
+enum { LONG_ASK = 6, END_MARK = 7, TAPE_KINDS = 7 };
 
 /* A step as a 64-bit word has its tape bits at the top, zeros below. */
 uint64_t word_of_step(Step step);
