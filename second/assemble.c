@@ -105,12 +105,12 @@ static const char *read_asked(Text *text, Step *step)
     unsigned notes = 0;
     unsigned added = 0;
     unsigned removed = 0;
-    const char *wrong = read_number(text, HEX, UINT8_MAX, "own notes over ff", &notes);
+    const char *wrong = read_number(text, HEX, UINT16_MAX, "own notes over ffff", &notes);
     if (wrong == NULL)
         wrong = read_number(text, HEX, UINT16_MAX, "boxes added over ffff", &added);
     if (wrong == NULL)
         wrong = read_number(text, HEX, UINT16_MAX, "boxes removed over ffff", &removed);
-    step->own_notes = (uint8_t)notes;
+    step->own_notes = (uint16_t)notes;
     step->change = (Configuration){ (uint16_t)added, (uint16_t)removed };
     return wrong;
 }

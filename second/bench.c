@@ -22,7 +22,7 @@ static void play_once(const Tape *tape, Answer (*take)(Run *, Step))
     start_run(&run, tape->first);
     for (size_t i = 0; i < tape->steps; i++)
         sink += take(&run, step_of_word(tape->row[i])).number;
-    sink += run.handed_back.notes;
+    sink += run.handed_back.notes.high + run.handed_back.notes.low;
 }
 
 /* Does the named work once; gives how many steps or bytes it is, 0 for no such work. */

@@ -1,9 +1,16 @@
-/* Books, boxes and containment (document 01, section of that name). */
+/* Books, boxes and containment (document 01, section of that name, with request [1] of
+   document 02). */
 #ifndef BOOKS_H
 #define BOOKS_H
 
 #include <stdbool.h>
 #include <stdint.h>
+
+/* A set of notes 0 to 127, note n having weight 2^n: notes 64 to 127, and notes 0 to 63. */
+typedef struct {
+    uint64_t high;
+    uint64_t low;
+} Notes;
 
 /* A configuration is two sets of boxes, box b having weight 2^b. */
 typedef struct {
@@ -11,9 +18,9 @@ typedef struct {
     uint16_t removed;
 } Configuration;
 
-/* A book is notes and a configuration, note n having weight 2^n. */
+/* A book is notes and a configuration. */
 typedef struct {
-    uint64_t notes;
+    Notes notes;
     Configuration boxes;
 } Book;
 
@@ -38,6 +45,21 @@ static inline bool majority(uint16_t added, uint16_t removed, uint16_t answered)
     return 2 * count(members(c) & answered) > count(members(c));
 }
 
+static inline bool same_notes(Notes a, Notes b)
+{
+    return a.high == b.high && a.low == b.low;
+}
+
+static inline Notes join_notes(Notes a, Notes b)
+{
+    return (Notes){ a.high | b.high, a.low | b.low };
+}
+
+static inline bool notes_contain(Notes whole, Notes part)
+{
+    return same_notes(join_notes(whole, part), whole);
+}
+
 static inline bool same_configuration(Configuration a, Configuration b)
 {
     return a.added == b.added && a.removed == b.removed;
@@ -55,12 +77,12 @@ static inline bool configuration_contains(Configuration whole, Configuration par
 
 static inline Book join_books(Book a, Book b)
 {
-    return (Book){ a.notes | b.notes, join_configurations(a.boxes, b.boxes) };
+    return (Book){ join_notes(a.notes, b.notes), join_configurations(a.boxes, b.boxes) };
 }
 
 static inline bool book_contains(Book whole, Book part)
 {
-    return (whole.notes | part.notes) == whole.notes
+    return notes_contain(whole.notes, part.notes)
         && configuration_contains(whole.boxes, part.boxes);
 }
 

@@ -5,7 +5,7 @@
 void start_promise(Promise *promise, uint16_t first_boxes)
 {
     memset(promise->asked, 0, sizeof promise->asked);
-    promise->sources = (Book){ 0, { first_boxes, 0 } };
+    promise->sources = (Book){ .boxes.added = first_boxes };
     promise->books = 0;
 }
 

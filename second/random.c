@@ -75,18 +75,25 @@ static void hold_new_messages(Maker *maker, const bool before[SLOTS])
 static bool emit(Maker *maker, Step step)
 {
     bool before[SLOTS];
-    if (maker->bits + bits_of_step(step.kind) + END_BITS > maker->style.bits)
+    if (maker->bits + bits_of_step(step) + END_BITS > maker->style.bits)
         return false;
     for (unsigned slot = 0; slot < SLOTS; slot++)
         before[slot] = maker->run.slots[slot].kind != NO_MESSAGE;
     if (step.kind == DELIVER || step.kind == LOSE)
         before[step.target] = false;
-    maker->bits += bits_of_step(step.kind);
+    maker->bits += bits_of_step(step);
     maker->row[maker->steps++] = word_of_step(step);
     Number number = take_step_unscanned(&maker->run, step).number;
     maker->in_vain += step.kind == DELIVER && number != DONE;
     hold_new_messages(maker, before);
     return maker->in_vain < 40;
+}
+
+/* Any own notes, for a short Ask or a long one. */
+static uint16_t random_notes(Dice *dice)
+{
+    uint16_t among = chance(dice, 50) ? UINT8_MAX : UINT16_MAX;
+    return (uint16_t)(roll(dice) & among);
 }
 
 static Step wild_step(Dice *dice)
@@ -97,7 +104,7 @@ static Step wild_step(Dice *dice)
     Step step = { .kind = kind, .target = target };
     if (kind != ASK)
         return step;
-    step.own_notes = (uint8_t)roll(dice);
+    step.own_notes = random_notes(dice);
     step.change.added = (uint16_t)roll(dice);
     step.change.removed = (uint16_t)(roll(dice) & roll(dice));
     return step;
@@ -136,9 +143,9 @@ static Step random_ask(Maker *maker, unsigned tablet)
     Dice *dice = maker->dice;
     Step step = { ASK, tablet, 0, { 0, 0 } };
     if (chance(dice, 85))
-        step.own_notes = (uint8_t)(1u << below(dice, 8));
+        step.own_notes = (uint16_t)(1u << below(dice, 16));
     if (chance(dice, 10))
-        step.own_notes = (uint8_t)roll(dice);
+        step.own_notes = random_notes(dice);
     if (chance(dice, maker->style.change))
         step.change = random_change(maker, tablet);
     return step;

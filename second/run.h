@@ -44,7 +44,7 @@ typedef struct {
 /* What a device keeps and what requests and answers carry: v, candidates, T. */
 typedef struct {
     Book v;
-    uint64_t candidates;
+    Notes candidates;
     uint8_t changes;
 } Contents;
 
@@ -84,11 +84,12 @@ typedef struct {
 
 typedef enum { ASK, ADVANCE, DELIVER, LOSE, REPEAT, STOP, STEP_KINDS } StepKind;
 
-/* `target` is the tablet, slot or device; notes and change belong to Ask. */
+/* `target` is the tablet, slot or device; notes and change belong to Ask, in own notes the
+   tablet's lowest number having weight 1. */
 typedef struct {
     StepKind kind;
     unsigned target;
-    uint8_t own_notes;
+    uint16_t own_notes;
     Configuration change;
 } Step;
 
@@ -124,10 +125,11 @@ static inline bool is_stopped(const Run *run, unsigned device)
     return (run->stopped >> device & 1) != 0;
 }
 
-/* The notes 8t to 8t+7 that an Ask of tablet t brings. */
-static inline uint64_t notes_of(unsigned tablet, uint8_t own_notes)
+/* The notes among 16t to 16t+15 that an Ask of tablet t brings. */
+static inline Notes notes_of(unsigned tablet, uint16_t own_notes)
 {
-    return (uint64_t)own_notes << (8 * tablet);
+    uint64_t notes = (uint64_t)own_notes << 16 * tablet % 64;
+    return 16 * tablet < 64 ? (Notes){ 0, notes } : (Notes){ notes, 0 };
 }
 
 #endif

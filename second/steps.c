@@ -32,7 +32,7 @@ static uint8_t trimmed(const Changes *changes, Configuration c, unsigned set)
 static void merge(const Changes *changes, Contents *own, Contents incoming)
 {
     own->v = join_books(own->v, incoming.v);
-    own->candidates |= incoming.candidates;
+    own->candidates = join_notes(own->candidates, incoming.candidates);
     own->changes = trimmed(changes, own->v.boxes, own->changes | incoming.changes);
 }
 
@@ -115,7 +115,7 @@ static unsigned place_of(const Changes *changes, Configuration change)
     return place;
 }
 
-static Answer ask(Run *run, unsigned t, uint64_t notes, Configuration change)
+static Answer ask(Run *run, unsigned t, Notes notes, Configuration change)
 {
     if (is_stopped(run, t))
         return refuse(IS_STOPPED);
@@ -195,7 +195,7 @@ static Answer advance(Run *run, unsigned t)
         Book decided = { now->candidates, joined(&run->changes, now->v.boxes, now->changes) };
         if (!floor.set)
             floor = (Floor){ true, decided };
-        if (now->candidates == saved->candidates)
+        if (same_notes(now->candidates, saved->candidates))
             return commit(run, t, decided);
     }
     if (floor.set && book_contains(now->v, floor.book)) {

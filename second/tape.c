@@ -4,7 +4,7 @@
 
 #include <string.h>
 
-enum { KIND_BITS = 3, NO_KIND = 6, END_MARK = 7, FIRST_BAD_DEVICE = 24 };
+enum { KIND_BITS = 3 };
 
 typedef enum { A_STEP, THE_END, A_REFUSAL } ReadingCase;
 
@@ -15,10 +15,20 @@ typedef struct {
     size_t next;
 } Reading;
 
-unsigned bits_of_step(StepKind kind)
+static unsigned bits_of_kind(unsigned kind)
 {
-    static const unsigned bits[STEP_KINDS] = { 46, 6, 10, 10, 10, 8 };
+    static const unsigned bits[TAPE_KINDS] = { 46, 6, 10, 10, 10, 8, 54 };
     return bits[kind];
+}
+
+static unsigned kind_of_step(Step step)
+{
+    return step.kind == ASK && step.own_notes > UINT8_MAX ? LONG_ASK : (unsigned)step.kind;
+}
+
+unsigned bits_of_step(Step step)
+{
+    return bits_of_kind(kind_of_step(step));
 }
 
 /* The `width` bits of a word that stand `from` bits below its top. */
@@ -32,37 +42,52 @@ static uint64_t top_bits(unsigned width)
     return ~UINT64_C(0) << (64 - width);
 }
 
+unsigned kind_of_word(uint64_t word)
+{
+    return field(word, 0, KIND_BITS);
+}
+
+/* Both Asks have the same fields; own notes are the first eight of the sixteen, or all. */
+static Step ask_of_word(uint64_t word, unsigned notes_width)
+{
+    return (Step){
+        .kind = ASK,
+        .target = field(word, 3, 3),
+        .own_notes = (uint16_t)field(word, 6, notes_width),
+        .change.added = (uint16_t)field(word, 6 + notes_width, 16),
+        .change.removed = (uint16_t)field(word, 22 + notes_width, 16),
+    };
+}
+
 Step step_of_word(uint64_t word)
 {
-    Step step = { .kind = (StepKind)field(word, 0, 3) };
-    switch (step.kind) {
+    unsigned kind = kind_of_word(word);
+    switch (kind) {
     case ASK:
-        step.target = field(word, 3, 3);
-        step.own_notes = (uint8_t)field(word, 6, 8);
-        step.change.added = (uint16_t)field(word, 14, 16);
-        step.change.removed = (uint16_t)field(word, 30, 16);
-        break;
+        return ask_of_word(word, 8);
+    case LONG_ASK:
+        return ask_of_word(word, 16);
     case ADVANCE:
-        step.target = field(word, 3, 3);
-        break;
+        return (Step){ .kind = ADVANCE, .target = field(word, 3, 3) };
     case STOP:
-        step.target = field(word, 3, 5);
-        break;
+        return (Step){ .kind = STOP, .target = field(word, 3, 5) };
     default:
-        step.target = field(word, 3, 7);
-        break;
+        return (Step){ .kind = (StepKind)kind, .target = field(word, 3, 7) };
     }
-    return step;
 }
 
 uint64_t word_of_step(Step step)
 {
+    unsigned kind = kind_of_step(step);
+    uint64_t word = (uint64_t)kind << 61;
     uint64_t target = step.target;
-    uint64_t word = (uint64_t)step.kind << 61;
-    switch (step.kind) {
+    uint64_t notes = step.own_notes;
+    uint64_t change = (uint64_t)step.change.added << 16 | step.change.removed;
+    switch (kind) {
     case ASK:
-        return word | target << 58 | (uint64_t)step.own_notes << 50
-            | (uint64_t)step.change.added << 34 | (uint64_t)step.change.removed << 18;
+        return word | target << 58 | notes << 50 | change << 18;
+    case LONG_ASK:
+        return word | target << 58 | notes << 42 | change << 10;
     case ADVANCE:
         return word | target << 58;
     case STOP:
@@ -72,7 +97,21 @@ uint64_t word_of_step(Step step)
     }
 }
 
-/* The next bits from a position on, at the top; at least 46, zeros behind the end. */
+/* Words that have a kind and are no step all the same: Stop of a device over 23, and a long Ask
+   whose last eight notes are all absent. */
+static bool is_forbidden(uint64_t word)
+{
+    switch (kind_of_word(word)) {
+    case STOP:
+        return step_of_word(word).target >= DEVICES;
+    case LONG_ASK:
+        return step_of_word(word).own_notes <= UINT8_MAX;
+    default:
+        return false;
+    }
+}
+
+/* The next bits from a position on, at the top; at least 57, zeros behind the end. */
 static uint64_t window(const uint8_t *part, size_t length, size_t at)
 {
     uint64_t bits = 0;
@@ -100,18 +139,16 @@ static Reading read_step(const uint8_t *part, size_t length, size_t at)
 {
     size_t left = 8 * length - at;
     uint64_t bits = window(part, length, at);
-    unsigned kind = field(bits, 0, KIND_BITS);
+    unsigned kind = kind_of_word(bits);
     if (left < KIND_BITS)
         return refused(TAPE_TOO_SHORT);
     if (kind == END_MARK)
         return read_end(part, length, at + KIND_BITS);
-    if (kind == NO_KIND)
-        return refused(NO_SUCH_STEP);
-    unsigned width = bits_of_step((StepKind)kind);
+    unsigned width = bits_of_kind(kind);
     if (left < width)
         return refused(TAPE_TOO_SHORT);
     uint64_t word = bits & top_bits(width);
-    if (kind == STOP && step_of_word(word).target >= FIRST_BAD_DEVICE)
+    if (is_forbidden(word))
         return refused(NO_SUCH_STEP);
     return (Reading){ A_STEP, DONE, word, at + width };
 }
@@ -158,6 +195,21 @@ Number check_tape(const uint8_t *tape, size_t length)
     return check_and_count(tape, length, &steps);
 }
 
+unsigned kind_refused(const uint8_t *tape, size_t length)
+{
+    Reading reading = { .is = A_STEP, .next = 0 };
+    size_t at = 0;
+    if (length <= HEADER_BYTES)
+        return END_MARK;
+    while (reading.is == A_STEP) {
+        at = reading.next;
+        reading = read_step(tape + HEADER_BYTES, length - HEADER_BYTES, at);
+    }
+    if (8 * (length - HEADER_BYTES) - at < KIND_BITS)
+        return END_MARK;
+    return kind_of_word(window(tape + HEADER_BYTES, length - HEADER_BYTES, at));
+}
+
 Number read_tape(const uint8_t *tape, size_t length, uint64_t *row, size_t row_length,
                  uint16_t *first, size_t *steps)
 {
@@ -174,10 +226,9 @@ Number read_tape(const uint8_t *tape, size_t length, uint64_t *row, size_t row_l
 /* A word is a step when its own bits are one and zeros stand below. */
 static bool is_step(uint64_t word)
 {
-    unsigned kind = field(word, 0, KIND_BITS);
-    if (kind >= STEP_KINDS || (word & ~top_bits(bits_of_step((StepKind)kind))) != 0)
-        return false;
-    return kind != STOP || step_of_word(word).target < FIRST_BAD_DEVICE;
+    unsigned kind = kind_of_word(word);
+    return kind != END_MARK && (word & ~top_bits(bits_of_kind(kind))) == 0
+        && !is_forbidden(word);
 }
 
 /* Sets a word's bits from a position on in a part whose bits there are zero. */
@@ -195,7 +246,7 @@ static void pack_steps(uint8_t *part, size_t length, const uint64_t *row, size_t
     size_t at = 0;
     memset(part, 0, length);
     for (size_t i = 0; i < steps; i++) {
-        unsigned width = bits_of_step((StepKind)field(row[i], 0, KIND_BITS));
+        unsigned width = bits_of_kind(kind_of_word(row[i]));
         pack(part, at, row[i], width);
         at += width;
     }
@@ -211,7 +262,7 @@ Number write_tape(uint16_t first, const uint64_t *row, size_t steps, uint8_t *bu
     for (size_t i = 0; i < steps; i++) {
         if (!is_step(row[i]))
             return NO_SUCH_STEP;
-        bits += bits_of_step((StepKind)field(row[i], 0, KIND_BITS));
+        bits += bits_of_kind(kind_of_word(row[i]));
     }
     size_t bytes = HEADER_BYTES + (bits + 7) / 8;
     if (bytes > TAPE_BYTES)

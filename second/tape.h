@@ -1,4 +1,5 @@
-/* Tapes: checking, reading and writing (document 01, "The tape"). */
+/* Tapes: checking, reading and writing (document 01, "The tape", with request [1] of
+   document 02). */
 #ifndef TAPE_H
 #define TAPE_H
 
@@ -14,12 +15,21 @@ enum {
     TAPE_STEPS = (8 * (TAPE_BYTES - HEADER_BYTES) - END_BITS) / 6
 };
 
+/* The kinds on a tape are those of steps, then the long Ask, for an Ask with one of the tablet's
+   last eight notes and for no other, and the end mark, which is no step. */
+enum { LONG_ASK = 6, END_MARK = 7, TAPE_KINDS = 7 };
+
 /* A step as a 64-bit word has its tape bits at the top, zeros below. */
 uint64_t word_of_step(Step step);
 Step step_of_word(uint64_t word);
-unsigned bits_of_step(StepKind kind);
+unsigned bits_of_step(Step step);
+unsigned kind_of_word(uint64_t word);
 
 Number check_tape(const uint8_t *tape, size_t length);
+
+/* The kind of the step at which a tape is refused with 13 or 14; END_MARK where the tape has
+   too few bits for a kind. */
+unsigned kind_refused(const uint8_t *tape, size_t length);
 
 /* Writes *first, *steps and the row's first *steps places when the number is 0. */
 Number read_tape(const uint8_t *tape, size_t length, uint64_t *row, size_t row_length,

@@ -6,15 +6,27 @@ static const char *const names[STEP_KINDS] = { "ASK", "ADV", "DLV", "LOS", "REP"
 const char *const step_words[STEP_KINDS] = { "ask", "advance", "deliver",
                                              "lose", "repeat", "stop" };
 
+void print_notes(FILE *out, Notes notes)
+{
+    fprintf(out, "%016" PRIx64 "%016" PRIx64, notes.high, notes.low);
+}
+
+static void print_book(FILE *out, Book book)
+{
+    print_notes(out, book.notes);
+    fprintf(out, " %04x %04x", book.boxes.added, book.boxes.removed);
+}
+
 /* The number and what comes with it, to the end of the line. */
 static void print_answer(FILE *out, Answer answer)
 {
     fprintf(out, " %d", (int)answer.number);
     if (answer.outcome == NEW_ROUND)
         fprintf(out, " R %u", answer.round);
-    if (answer.outcome == COMMITTED || answer.outcome == ADOPTED)
-        fprintf(out, " %c %016" PRIx64 " %04x %04x", answer.outcome == COMMITTED ? 'C' : 'A',
-                answer.book.notes, answer.book.boxes.added, answer.book.boxes.removed);
+    if (answer.outcome == COMMITTED || answer.outcome == ADOPTED) {
+        fputs(answer.outcome == COMMITTED ? " C " : " A ", out);
+        print_book(out, answer.book);
+    }
     fputc('\n', out);
 }
 
@@ -43,11 +55,14 @@ void print_slots(FILE *out, const Run *run)
         print_device(out, message->sender);
         fputs(" to ", out);
         print_device(out, message->addressee);
-        if (message->kind != COMMIT)
-            fprintf(out, " round %u candidates %" PRIx64 " changes %x", message->round,
-                    message->contents.candidates, message->contents.changes);
-        fprintf(out, " v %" PRIx64 " %04x %04x\n", message->contents.v.notes,
-                message->contents.v.boxes.added, message->contents.v.boxes.removed);
+        if (message->kind != COMMIT) {
+            fprintf(out, " round %u candidates ", message->round);
+            print_notes(out, message->contents.candidates);
+            fprintf(out, " changes %x", message->contents.changes);
+        }
+        fputs(" v ", out);
+        print_book(out, message->contents.v);
+        fputc('\n', out);
     }
 }
 
@@ -60,8 +75,8 @@ void print_text_form(FILE *out, uint16_t first, const uint64_t *row, size_t step
         Step step = step_of_word(row[i]);
         fprintf(out, "%s %u", step_words[step.kind], step.target);
         if (step.kind == ASK)
-            fprintf(out, " %02x %04x %04x", step.own_notes, step.change.added,
-                    step.change.removed);
+            fprintf(out, " %0*x %04x %04x", step.own_notes > UINT8_MAX ? 4 : 2, step.own_notes,
+                    step.change.added, step.change.removed);
         fputs(" :", out);
         print_answer(out, take_step(&run, step));
     }

@@ -6,6 +6,9 @@
 
 #include <stdio.h>
 
+/* In 32 digits. */
+void print_notes(FILE *out, Notes notes);
+
 /* One line of the program's output (document 01, "The tape", last part). */
 void print_step(FILE *out, size_t number, Step step, Answer answer);
 
