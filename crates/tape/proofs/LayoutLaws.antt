@@ -11,9 +11,10 @@ use lib.Dec.{leb, eqb}
 use borrow.Author.Tests.{le-leb, leb-true, eqb-true}
 use Rattle.tape.specs.Bits.{num, bits, fieldAt}
 use Rattle.tape.specs.Edition.{Field, span, stepWidth, fits, every, Edition, firstEdition, editionOf}
-use Rattle.tape.specs.Layout.{fields, width, fieldsAllowed, legal, numbers, fieldsOf, noField, full, boundWith, boundOf, layoutOf}
+use Rattle.tape.specs.Layout.{fields, width, fieldsAllowed, legal, numbers, fieldsOf, noField, full, boundOf, layoutOf}
 use Rattle.tape.specs.declared.edition.Edition.{Edition as InCode}
 use Rattle.tape.specs.declared.layout.Bound.{Bound}
+use Rattle.tape.specs.declared.layout.Bound.the-variants as B
 use Rattle.tape.specs.declared.edition.Edition.the-variants as E
 use Rattle.tape.proofs.BitLaws.{length-bits, num-take-lt}
 use Rattle.tape.proofs.WordLaws.{field-inside}
@@ -132,38 +133,33 @@ unfolding allFull fieldsAllowed
 in-full [] f h = refl
 in-full (x ∷ xs) f h = let b = both (full x) h in full-next x xs f (b .0) ∙ in-full xs (drop (x .width) f) (b .1)
 
--- a number is one that a bound allows
+-- a word keeps a bound
 abbrev pub within : Bound → ℕ → Bool
-within b n = cond (leb (b .least) n) (leb n (b .most)) false
+within B.None x = true
+within (B.Within from w a b) x = cond (leb a (fieldAt x from w)) (leb (fieldAt x from w) b) false
 
--- the field of some bits that a bound is about holds such a number
-abbrev kept : Bound → List Bool → Bool
-kept b f = within b (num (take (b .width) (drop (b .from) f)))
-
--- some fields, from a bit on, are judged by their bound
-in-bound : (xs : List Field) (from : ℕ) (f : List Bool) → oneBound xs ≡ true → fieldsAllowed xs (drop from f) ≡ kept (boundOf from xs) f
-unfolding oneBound fieldsAllowed num
-in-bound [] from f h = refl
-in-bound (x ∷ xs) from f h = go (full x) refl h (in-bound xs (from + x .width) f)
+-- some fields of a word, from a bit on, are judged by their bound
+in-bound : (xs : List Field) (from x : ℕ) → from + span xs ≤ 64 → oneBound xs ≡ true → fieldsAllowed xs (drop from (bits 64 x)) ≡ within (boundOf from xs) x
+unfolding oneBound fieldsAllowed
+in-bound [] from x l h = refl
+in-bound (y ∷ ys) from x l h = go (full y) refl h (in-bound ys (from + y .width) x (omega arith))
   where
-    n : ℕ
-    n = num (take (x .width) (drop from f))
+    f : List Bool
+    f = drop from (bits 64 x)
 
     itself : (t : Bool) → cond t true false ≡ t
     itself true = refl
     itself false = refl
 
-    go : (b : Bool) → full x ≡ b → cond b (oneBound xs) (allFull xs) ≡ true
-        → (oneBound xs ≡ true → fieldsAllowed xs (drop (from + x .width) f) ≡ kept (boundOf (from + x .width) xs) f)
-        → fieldsAllowed (x ∷ xs) (drop from f) ≡ kept (cond b (boundOf (from + x .width) xs) (boundWith from (x .width) (x .least) (x .most))) f
-    go true e h ih = full-next x xs (drop from f) e ∙ ap (fieldsAllowed xs) (drop-drop (x .width) from f) ∙ ih h
-    go false e h ih =
-        ap (λ t. cond (leb (x .least) n) (cond (leb n (x .most)) t false) false) (in-full xs (drop (x .width) (drop from f)) h)
-        ∙ ap (λ t. cond (leb (x .least) n) t false) (itself (leb n (x .most)))
-
-bound-inside : (xs : List Field) (from : ℕ) → boundOf from xs .from + boundOf from xs .width ≤ from + span xs
-bound-inside [] from = omega arith
-bound-inside (x ∷ xs) from = cond-has (λ (b : Bound). b .from + b .width ≤ from + span (x ∷ xs)) (full x) (λ _. omega (arith, bound-inside xs (from + x .width))) (λ _. omega arith)
+    go : (b : Bool) → full y ≡ b → cond b (oneBound ys) (allFull ys) ≡ true
+        → (oneBound ys ≡ true → fieldsAllowed ys (drop (from + y .width) (bits 64 x)) ≡ within (boundOf (from + y .width) ys) x)
+        → fieldsAllowed (y ∷ ys) f ≡ within (cond b (boundOf (from + y .width) ys) (B.Within from (y .width) (y .least) (y .most))) x
+    go true e h next = full-next y ys f e ∙ ap (fieldsAllowed ys) (drop-drop (y .width) from (bits 64 x)) ∙ next h
+    go false e h next =
+        let n = num (take (y .width) f) in
+        ap (λ t. cond (leb (y .least) n) (cond (leb n (y .most)) t false) false) (in-full ys (drop (y .width) f) h)
+        ∙ ap (λ t. cond (leb (y .least) n) t false) (itself (leb n (y .most)))
+        ∙ ap (λ m. cond (leb (y .least) m) (leb m (y .most)) false) (sym (field-inside x from (y .width) (omega arith)))
 
 -- fields are judged by their own bits
 allowed-front : (xs : List Field) (f r : List Bool) → span xs ≤ length f → fieldsAllowed xs (f ++ r) ≡ fieldsAllowed xs f
@@ -196,10 +192,5 @@ rows-bound E.First k = every-at oneBound refl (firstEdition .rows) refl k
 
 -- a step word of such an edition is judged by its bound
 pub legal-bound : (e : InCode) (x k : ℕ) → k ≡ num (take 3 (bits 64 x)) → width (editionOf e) k ≢ 0
-    → within (boundOf 3 (fields (editionOf e) k)) (fieldAt x (boundOf 3 (fields (editionOf e) k) .from) (boundOf 3 (fields (editionOf e) k) .width))
-    ≡ legal (editionOf e) (take (width (editionOf e) k) (bits 64 x))
-legal-bound e x k n h =
-    let xs = fields (editionOf e) k in
-    let b = boundOf 3 xs in
-    ap (within b) (field-inside x (b .from) (b .width) (omega (arith, bound-inside xs 3, span-fits (editionOf e) k)))
-    ∙ sym (legal-fields (editionOf e) x k n h ∙ in-bound xs 3 (bits 64 x) (rows-bound e k))
+    → within (layoutOf (fields (editionOf e) k) .bound) x ≡ legal (editionOf e) (take (width (editionOf e) k) (bits 64 x))
+legal-bound e x k n h = sym (legal-fields (editionOf e) x k n h ∙ in-bound (fields (editionOf e) k) 3 x (span-fits (editionOf e) k) (rows-bound e k))

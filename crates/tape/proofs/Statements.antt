@@ -3,7 +3,7 @@ use mathlib.Core.Path.{ap₂}
 use Rattle.sets.specs.Settles.{equation-settles}
 use Rattle.tape.specs.Statements.{Statements}
 use Rattle.tape.proofs.Settled.{read-settled, write-settled, check-reads}
-use Rattle.tape.proofs.StepWords.{word-by-fields, word-within}
+use Rattle.tape.proofs.StepWords.{word-by-fields, word-may-hold}
 use Rattle.tape.proofs.RoundTrip.{read-tape, tape-again, read-written, written-again}
 use Rattle.tape.proofs.CallsRoundTrip.{written-reads, read-writes}
 
@@ -20,7 +20,7 @@ statements =
             is-step = λ word. equation-settles _;
             fields-of = λ word. equation-settles _;
           };
-      step-words = λ ed. record { settled-by-fields = word-by-fields ed; fields-within = word-within ed };
+      step-words = λ ed. record { settled-by-fields = word-by-fields ed; fields-may-hold = word-may-hold ed };
       any-edition =
           λ ed. record {
             reads-back = λ head words long some all fits. read-tape ed head words long some all fits;

@@ -1,5 +1,5 @@
--- A step word by its fields: each holds a number that it may hold (`word-within`), and with the kind they settle the word (`word-by-fields`).
-use mathlib.Core.Path.{_≡_, refl, sym, ap, ap₂, _∙_}
+-- A step word by its fields: each holds a number that it may hold (`word-may-hold`), and with the kind they settle the word (`word-by-fields`).
+use mathlib.Core.Path.{_≡_, refl, sym, ap, ap₂, subst, _∙_}
 use mathlib.Core.Logic.{_≢_}
 use Prim.Native.Nat.{ℕ, zero, suc, _+_, _^_, _≤_, _<_}
 use mathlib.Core.List.{List, [], _∷_, _++_}
@@ -13,22 +13,22 @@ use Rattle.tape.specs.Bits.{num, bits, word}
 use Rattle.tape.specs.Edition.{Field, span, Edition}
 use Rattle.tape.specs.Layout.{fields, width, fieldsAllowed, legal, numbers, kindOf, fieldsOf, noField}
 use Rattle.tape.specs.Writing.{wide, isStep}
-use Rattle.tape.specs.Statements.{Within}
+use Rattle.tape.specs.Statements.{MayHold}
 use Rattle.tape.proofs.BitLaws.{length-bits, num-inj, num-take-lt}
 use Rattle.tape.proofs.LayoutLaws.{both, step-span, legal-fields}
 use Rattle.tape.proofs.StepLaws.{wide-none, wide-bad, wide-low}
 
 -- fields that are allowed hold numbers that they may hold
-numbers-within : (xs : List Field) (f : List Bool) → fieldsAllowed xs f ≡ true → (i : ℕ) → Within (getD xs i noField) (getD (numbers xs f) i 0)
+numbers-may-hold : (xs : List Field) (f : List Bool) → fieldsAllowed xs f ≡ true → (i : ℕ) → MayHold (getD xs i noField) (getD (numbers xs f) i 0)
 unfolding fieldsAllowed numbers
-numbers-within [] f h i = record { least = omega arith; most = omega arith; fits = omega arith }
-numbers-within (x ∷ xs) f h zero =
+numbers-may-hold [] f h i = record { least = omega arith; most = omega arith; fits = omega arith }
+numbers-may-hold (x ∷ xs) f h zero =
     let n = num (take (x .width) f) in
     let b = both (leb (x .least) n) h in
     record { least = leb-true _ _ (b .0); most = leb-true _ _ (both (leb n (x .most)) (b .1) .0); fits = num-take-lt f (x .width) }
-numbers-within (x ∷ xs) f h (suc i) =
+numbers-may-hold (x ∷ xs) f h (suc i) =
     let n = num (take (x .width) f) in
-    numbers-within xs (drop (x .width) f) (both (leb n (x .most)) (both (leb (x .least) n) h .1) .1) i
+    numbers-may-hold xs (drop (x .width) f) (both (leb n (x .most)) (both (leb (x .least) n) h .1) .1) i
 
 -- the numbers in some fields settle their bits
 numbers-settle : (xs : List Field) (a b : List Bool) → length a ≡ length b → numbers xs a ≡ numbers xs b → take (span xs) a ≡ take (span xs) b
@@ -67,11 +67,12 @@ module _ (ed : Edition) where
       same l n true e = eqb-true _ _ e
       same l n false e = absurd (omega (arith, wide-low ed x n (eqb-false _ _ e)))
 
-  pub word-within : (x i : ℕ) → isStep ed x ≡ true → Within (getD (fields ed (kindOf x)) i noField) (getD (fieldsOf ed x) (suc i) 0)
+  pub word-may-hold : (x k i : ℕ) → isStep ed x ≡ true → kindOf x ≡ k → MayHold (getD (fields ed k) i noField) (getD (fieldsOf ed x) (suc i) 0)
   unfolding fieldsOf
-  word-within x i h =
+  word-may-hold x k i h e =
       let m = made x h in
-      numbers-within (fields ed (kindOf x)) (drop 3 (bits 64 x)) (sym (legal-fields ed x (kindOf x) refl (m .some)) ∙ m .fine) i
+      subst (λ j. MayHold (getD (fields ed j) i noField) (getD (fieldsOf ed x) (suc i) 0)) e
+      (numbers-may-hold (fields ed (kindOf x)) (drop 3 (bits 64 x)) (sym (legal-fields ed x (kindOf x) refl (m .some)) ∙ m .fine) i)
 
   -- the kind and the fields of these bits
   front-is : (x : ℕ) → width ed (kindOf x) ≢ 0 → front x ≡ take 3 (bits 64 x) ++ take (span (fields ed (kindOf x))) (drop 3 (bits 64 x))

@@ -67,7 +67,7 @@ tablet = field 3 0 7
 abbrev firstEight : Field
 firstEight = field 8 0 255
 
--- "16 notes"; "a long Ask whose last eight notes are all absent", and so below 256, "is not a tape step"
+-- "16 notes": with its last eight all absent, and so a number below 256, it "is not a tape step"
 abbrev sixteen : Field
 sixteen = field 16 256 65535
 
@@ -83,7 +83,8 @@ slot = field 7 0 127
 abbrev device : Field
 device = field 5 0 23
 
--- Ask, Advance, Deliver, Lose, Repeat, Stop; "Kind 6 on the tape becomes a long Ask of 54 bits"; "Kind 7 ends it"; "First the 16-bit set of first boxes, then steps"
+-- Ask, Advance, Deliver, Lose, Repeat, Stop, and as kind 6 "a long Ask of 54 bits with 16 notes"; "Kind 7 ends it";
+-- "First the 16-bit set of first boxes, then steps"
 abbrev pub firstEdition : Edition
 firstEdition = record {
   rows =

@@ -7,6 +7,7 @@ use lib.Dec.{leb, eqb}
 use Rattle.tape.specs.Bits.{num, bits}
 use Rattle.tape.specs.Edition.{Field, field, stepWidth, Edition}
 use Rattle.tape.specs.declared.layout.Bound.{Bound}
+use Rattle.tape.specs.declared.layout.Bound.the-variants as B
 use Rattle.tape.specs.declared.layout.Layout.{Layout}
 use Rattle.tape.specs.declared.Fields.{Fields}
 
@@ -58,14 +59,10 @@ noField = field 0 0 0
 abbrev pub full : Field → Bool
 full x = cond (eqb (x .least) 0) (eqb (suc (x .most)) (2 ^ (x .width))) false
 
--- a field as the code has it: the bit that it begins at, how many bits it has, and the numbers it may hold
-abbrev pub boundWith : ℕ → ℕ → ℕ → ℕ → Bound
-boundWith from w a b = record { from = from; width = w; least = a; most = b }
-
--- the first of some fields, from a bit on, that may not hold whatever fits; a field of no bits where each may
+-- the first of some fields, from a bit on, that may not hold whatever fits, as the code has it
 abbrev pub boundOf : ℕ → List Field → Bound
-boundOf from [] = boundWith 0 0 0 0
-boundOf from (x ∷ xs) = cond (full x) (boundOf (from + x .width) xs) (boundWith from (x .width) (x .least) (x .most))
+boundOf from [] = B.None
+boundOf from (x ∷ xs) = cond (full x) (boundOf (from + x .width) xs) (B.Within from (x .width) (x .least) (x .most))
 
 -- a layout as the code has it: the bits of the step, those of each field, and the bound
 abbrev pub layoutWith : ℕ → ℕ → ℕ → ℕ → Bound → Layout

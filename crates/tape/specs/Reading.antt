@@ -10,14 +10,14 @@ use Rattle.tape.specs.Layout.{width, legal}
 use Rattle.tape.specs.declared.reading.Reading.{Reading}
 use Rattle.tape.specs.declared.reading.Reading.the-variants.{Step, Refused, End}
 
--- the step of w bits at p: 13 with too few bits, then 14 for a field that it may not hold, else "its tape bits at the top, zeros below"
+-- the step of w bits at p: 13 with too few bits, then 14 for a number that its field may not hold, else "its tape bits at the top, zeros below"
 unfoldable pub stepAt : Edition → List Bool → ℕ → ℕ → Reading
 stepAt ed t p w =
     cond (leb (p + w) (length t))
     (cond (legal ed (take w (drop p t))) (Step (word (take w (drop p t))) (p + w)) (Refused 14))
     (Refused 13)
 
--- a kind that is no step's is 14 at once; in the first edition that is kind 7 alone, which is the end mark's
+-- a kind that no step has is 14 at once; in the first edition each kind has one but 7, which is the end mark
 unfoldable pub kindAt : Edition → List Bool → ℕ → ℕ → Reading
 kindAt ed t p k = cond (eqb (width ed k) 0) (Refused 14) (stepAt ed t p (width ed k))
 

@@ -1,5 +1,6 @@
--- What holds of the tape's calls beside what each does: a contract settles its result, a step word is settled by its fields, a tape reads back as
--- written and writes back as read, and the tape check gives reading's number (01, "How far a contract must reach", "The tape", "Numbers a caller gets back"). Proved in proofs/Statements.
+-- What holds of the tape's calls beside what each does: a contract settles its result, its fields settle a step word, a tape reads back as written
+-- and writes back as read, and the tape check gives reading's number (01, "How far a contract must reach", "The tape", "Numbers a caller gets
+-- back"). Proved in proofs/Statements.
 use mathlib.Core.Path.{_≡_}
 use mathlib.Core.Logic.{_≢_}
 use Prim.Native.Nat.{ℕ, suc, _+_, _^_, _≤_, _<_}
@@ -30,17 +31,17 @@ pub record Settled : Type 0 where
 
 -- ---- A step word in any edition
 
--- a number that a field may hold
-pub record Within (x : Field) (n : ℕ) : Type 0 where
+-- a field may hold a number
+pub record MayHold (x : Field) (n : ℕ) : Type 0 where
   pub least : x .least ≤ n
   pub most : n ≤ x .most
   pub fits : n < 2 ^ (x .width)
 
 pub record StepWords (ed : Edition) : Type 0 where
-  -- its kind and the numbers in its fields settle it: no two step words have the same
+  -- its kind and the numbers in its fields settle it
   pub settled-by-fields : (x y : ℕ) → isStep ed x ≡ true → isStep ed y ≡ true → fieldsOf ed x ≡ fieldsOf ed y → x ≡ y
-  -- each of its fields holds a number that it may hold
-  pub fields-within : (x i : ℕ) → isStep ed x ≡ true → Within (getD (fields ed (kindOf x)) i noField) (getD (fieldsOf ed x) (suc i) 0)
+  -- each field of its kind holds a number that it may hold
+  pub fields-may-hold : (x k i : ℕ) → isStep ed x ≡ true → kindOf x ≡ k → MayHold (getD (fields ed k) i noField) (getD (fieldsOf ed x) (suc i) 0)
 
 -- ---- The round trip in any edition: a head with first boxes, and steps that fit
 

@@ -10,12 +10,10 @@ use crate::bits::field;
 use crate::bits::top;
 use crate::edition::Edition;
 
-// The one field of a step that may not hold whatever fits: its first bit and its bits, and the numbers that it may hold.
-pub(crate) struct Bound {
-    pub(crate) from: usize,
-    pub(crate) width: usize,
-    pub(crate) least: u64,
-    pub(crate) most: u64,
+// The one field of a step that may not hold whatever fits, if there is one: its first bit, how many bits it has, the least and the most that it may hold.
+pub(crate) enum Bound {
+    None,
+    Within(usize, usize, u64, u64),
 }
 
 // How many bits a step takes with its kind, 0 for no step; the bits of each of its fields, in their order; and its bound.
@@ -27,30 +25,6 @@ pub(crate) struct Layout {
     pub(crate) fourth: usize,
     pub(crate) bound: Bound,
 }
-
-// Each field may hold whatever fits: a field of no bits holds 0.
-const ANYTHING: Bound = Bound {
-    from: 0,
-    width: 0,
-    least: 0,
-    most: 0,
-};
-
-// Stop: no device from 24 on.
-const DEVICES: Bound = Bound {
-    from: 3,
-    width: 5,
-    least: 0,
-    most: 23,
-};
-
-// Long Ask: some note of the last eight.
-const SIXTEEN_NOTES: Bound = Bound {
-    from: 6,
-    width: 16,
-    least: 256,
-    most: 65535,
-};
 
 // A step of so many fields: its width is their sum with the 3 bits of the kind.
 fn layout_with(first: usize, second: usize, third: usize, fourth: usize, bound: Bound) -> Layout
@@ -73,17 +47,17 @@ fn first_layout(kind: u64) -> Layout
 {
     match kind {
         // Ask: tablet, own notes, added, removed.
-        0 => layout_with(3, 8, 16, 16, ANYTHING),
+        0 => layout_with(3, 8, 16, 16, Bound::None),
         // Advance: tablet.
-        1 => layout_with(3, 0, 0, 0, ANYTHING),
+        1 => layout_with(3, 0, 0, 0, Bound::None),
         // Deliver, Lose, Repeat: slot.
-        2 => layout_with(7, 0, 0, 0, ANYTHING),
-        3 => layout_with(7, 0, 0, 0, ANYTHING),
-        4 => layout_with(7, 0, 0, 0, ANYTHING),
-        // Stop: device.
-        5 => layout_with(5, 0, 0, 0, DEVICES),
-        // Long Ask: tablet, own notes, added, removed.
-        6 => layout_with(3, 16, 16, 16, SIXTEEN_NOTES),
+        2 => layout_with(7, 0, 0, 0, Bound::None),
+        3 => layout_with(7, 0, 0, 0, Bound::None),
+        4 => layout_with(7, 0, 0, 0, Bound::None),
+        // Stop: device, below 24.
+        5 => layout_with(5, 0, 0, 0, Bound::Within(3, 5, 0, 23)),
+        // Long Ask: as Ask; its last eight notes, which weigh 256 and more, are not all absent.
+        6 => layout_with(3, 16, 16, 16, Bound::Within(6, 16, 256, 65535)),
         // No step.
         _ => Layout {
             width: 0,
@@ -91,7 +65,7 @@ fn first_layout(kind: u64) -> Layout
             second: 0,
             third: 0,
             fourth: 0,
-            bound: ANYTHING,
+            bound: Bound::None,
         },
     }
 }
@@ -112,11 +86,14 @@ pub(crate) fn fields_allowed(edition: Edition, kind: u64, word: u64) -> bool
 {
     let l = layout_of(edition, kind);
     let bound = l.bound;
-    let number = field(word, bound.from, bound.width);
-    if number < bound.least {
+    let Bound::Within(from, width, least, most) = bound else {
+        return true;
+    };
+    let number = field(word, from, width);
+    if number < least {
         return false;
     }
-    number <= bound.most
+    number <= most
 }
 
 // How many bits the step in a word takes, or 0 for a word that is none.
