@@ -14,10 +14,10 @@ use Rattle.tape.specs.Bits.{bits, Bytes}
 use Rattle.tape.specs.Edition.{firstEdition}
 use Rattle.tape.specs.Layout.{fields, width, numbers, kindOf, fieldsOf, fieldsIn, noField}
 use Rattle.tape.specs.Reading.{given, wordsOf, readTape, firstBoxes}
-use Rattle.tape.specs.Statements.{Within}
+use Rattle.tape.specs.Statements.{MayHold}
 use Rattle.tape.specs.Writing.{wide, isStep, allSteps, writeTape}
 use Rattle.tape.proofs.StepLaws.{wide-none}
-use Rattle.tape.proofs.StepWords.{word-within, word-by-fields}
+use Rattle.tape.proofs.StepWords.{word-may-hold, word-by-fields}
 use Rattle.tape.proofs.WritingLaws.{all-cons}
 use Rattle.tape.proofs.RoundTrip.{accepted-part}
 use Rattle.tape.proofs.Statements.{statements as of-tapes}
@@ -53,26 +53,26 @@ kindFields k b = k ∷ numbers (fields firstEdition k) b
 ofKind : ℕ → List Bool → Decoded
 ofKind k b = ofFields (record { kind = k; first = getD (kindFields k b) 1 0; second = getD (kindFields k b) 2 0; third = getD (kindFields k b) 3 0; fourth = getD (kindFields k b) 4 0 })
 
-kind-fields : (k : ℕ) (b : List Bool) → width firstEdition k ≢ 0 → Within (getD (fields firstEdition k) 1 noField) (getD (kindFields k b) 2 0)
+kind-fields : (k : ℕ) (b : List Bool) → width firstEdition k ≢ 0 → MayHold (getD (fields firstEdition k) 1 noField) (getD (kindFields k b) 2 0)
     → kindFields k b ≡ decodedFields (ofKind k b)
 unfolding kindFields ofKind decodedFields fieldsFor numbers
-kind-fields zero b h within =
-    let most : getD (kindFields 0 b) 2 0 < 256 = omega (arith, within .most) in
+kind-fields zero b h may-hold =
+    let most : getD (kindFields 0 b) 2 0 < 256 = omega (arith, may-hold .most) in
     ap (λ (k : ℕ). k ∷ numbers (fields firstEdition 0) b) (pick-true 0 6 (lt-ltb _ 256 most))
-kind-fields (suc zero) b h within = refl
-kind-fields (suc (suc zero)) b h within = refl
-kind-fields (suc (suc (suc zero))) b h within = refl
-kind-fields (suc (suc (suc (suc zero)))) b h within = refl
-kind-fields (suc (suc (suc (suc (suc zero))))) b h within = refl
-kind-fields (suc (suc (suc (suc (suc (suc zero)))))) b h within =
-    ap (λ (k : ℕ). k ∷ numbers (fields firstEdition 6) b) (pick-false 0 6 (le-ltb _ _ (within .least)))
-kind-fields (suc (suc (suc (suc (suc (suc (suc k))))))) b h within = absurd (h refl)
+kind-fields (suc zero) b h may-hold = refl
+kind-fields (suc (suc zero)) b h may-hold = refl
+kind-fields (suc (suc (suc zero))) b h may-hold = refl
+kind-fields (suc (suc (suc (suc zero)))) b h may-hold = refl
+kind-fields (suc (suc (suc (suc (suc zero))))) b h may-hold = refl
+kind-fields (suc (suc (suc (suc (suc (suc zero)))))) b h may-hold =
+    ap (λ (k : ℕ). k ∷ numbers (fields firstEdition 6) b) (pick-false 0 6 (le-ltb _ _ (may-hold .least)))
+kind-fields (suc (suc (suc (suc (suc (suc (suc k))))))) b h may-hold = absurd (h refl)
 
 step-fields : (x : ℕ) (step : Step) → isStep firstEdition x ≡ true → stepOf x ≡ D.Step step → fieldsOf firstEdition x ≡ fieldsFor step
 unfolding kindFields ofKind decodedFields fieldsOf fieldsIn
 step-fields x step h e =
     let some : width firstEdition (kindOf x) ≢ 0 = λ e. omega (arith, wide-none firstEdition x e, ltb-true 0 (wide firstEdition x) h) in
-    kind-fields (kindOf x) (drop 3 (bits 64 x)) some (word-within firstEdition x 1 h)
+    kind-fields (kindOf x) (drop 3 (bits 64 x)) some (word-may-hold firstEdition x (kindOf x) 1 h refl)
     ∙ ap decodedFields (step-is x (fieldsIn firstEdition x) (ofFields (fieldsIn firstEdition x)) h refl refl ∙ e)
 
 decoded-is-step : (x : ℕ) (step : Step) → stepOf x ≡ D.Step step → isStep firstEdition x ≡ true
