@@ -95,7 +95,7 @@ pub(crate) fn first_of_two() {
     read_long(4097, 0x00, 0);
     read(2, 0x0000, 3);
     read(3, 0x0000a0, 3);
-    read(3, 0x0000c0, 3);
+    read(3, 0x0000b8, 3);
     read(4, 0x0000a0e0, 0);
 }
 
