@@ -67,7 +67,7 @@ tablet = field 3 0 7
 abbrev firstEight : Field
 firstEight = field 8 0 255
 
--- "16 notes": with its last eight all absent, and so a number below 256, it "is not a tape step"
+-- "16 notes": "A long Ask whose last eight notes are all absent", which makes a number below 256, "is not a tape step"
 abbrev sixteen : Field
 sixteen = field 16 256 65535
 

@@ -1,7 +1,6 @@
 // Examples of reading, in the order of its numbers: 11; 13 under three bytes; 12; 13 or 14 at the first step that has it; 15; 16.
 use crate::reads::read;
 use crate::reads::read_long;
-use crate::reads::read_ten;
 use crate::said::say;
 
 pub(crate) fn longest() {
@@ -12,76 +11,76 @@ pub(crate) fn longest() {
 
 pub(crate) fn shortest() {
     say(b"13 read fewer than three bytes, and three\n");
-    read(2, 0x0007, 3);
-    read(3, 0x0007e0, 3);
+    read(0x0007, 0, 0, 3);
+    read(0x0007, 1, 0xe0, 3);
 }
 
 pub(crate) fn first_boxes() {
     say(b"12 read no first box, and first box 0 or 15\n");
-    read(3, 0x0000e0, 3);
-    read(3, 0x0001e0, 3);
-    read(3, 0x8000e0, 3);
+    read(0x0000, 1, 0xe0, 3);
+    read(0x0001, 1, 0xe0, 3);
+    read(0x8000, 1, 0xe0, 3);
 }
 
 pub(crate) fn cut_short() {
     say(b"13 read a Deliver of which 8 bits are there, and a whole one\n");
-    read(3, 0x000740, 3);
-    read(4, 0x00074038, 3);
+    read(0x0007, 1, 0x40, 3);
+    read(0x0007, 2, 0x4038, 3);
 }
 
 pub(crate) fn no_end() {
     say(
         b"13 read a Stop with nothing behind it, an Advance with 2 bits behind it, and the same with the end mark\n",
     );
-    read(3, 0x0007a0, 3);
-    read(3, 0x000720, 3);
-    read(4, 0x0007a0e0, 3);
-    read(4, 0x00072380, 3);
+    read(0x0007, 1, 0xa0, 3);
+    read(0x0007, 1, 0x20, 3);
+    read(0x0007, 2, 0xa0e0, 3);
+    read(0x0007, 2, 0x2380, 3);
 }
 
 pub(crate) fn long_ask_cut_short() {
     say(
         b"13 read a long Ask of which 8 bits are there, one of which 52 are there behind two Advances, and a whole one\n",
     );
-    read(3, 0x0007c0, 3);
-    read_ten(0x208c004000000000);
-    read_ten(0xc004000000000380);
+    read(0x0007, 1, 0xc0, 3);
+    read(0x0007, 8, 0x208c004000000000, 3);
+    read(0x0007, 8, 0xc004000000000380, 3);
 }
 
 pub(crate) fn last_eight_notes() {
     say(
         b"14 read a long Ask with its first eight notes alone, with none, and with the first of its last eight\n",
     );
-    read_ten(0xc003fc0000000380);
-    read_ten(0xc000000000000380);
-    read_ten(0xc004000000000380);
+    read(0x0007, 8, 0xc003fc0000000380, 3);
+    read(0x0007, 8, 0xc000000000000380, 3);
+    read(0x0007, 8, 0xc004000000000380, 3);
 }
 
 pub(crate) fn device_24() {
     say(b"14 read device 24, device 31, and device 23\n");
-    read(4, 0x0007b8e0, 3);
-    read(4, 0x0007bfe0, 3);
-    read(4, 0x0007b7e0, 3);
+    read(0x0007, 2, 0xb8e0, 3);
+    read(0x0007, 2, 0xbfe0, 3);
+    read(0x0007, 2, 0xb7e0, 3);
 }
 
 pub(crate) fn bit_set() {
     say(b"15 read a bit set after the end mark, the first or the last one, and none\n");
-    read(3, 0x0007f0, 3);
-    read(3, 0x0007e1, 3);
-    read(3, 0x0007e0, 3);
+    read(0x0007, 1, 0xf0, 3);
+    read(0x0007, 1, 0xe1, 3);
+    read(0x0007, 1, 0xe0, 3);
 }
 
 pub(crate) fn further_byte() {
     say(b"15 read a further byte, and none\n");
-    read(4, 0x0007e000, 3);
-    read(3, 0x0007e0, 3);
+    read(0x0007, 2, 0xe000, 3);
+    read(0x0007, 1, 0xe0, 3);
 }
 
 pub(crate) fn rows() {
     say(b"16 read two steps into a row of one place, of two and of three\n");
-    read(5, 0x0007a0a1e0, 1);
-    read(5, 0x0007a0a1e0, 2);
-    read(5, 0x0007a0a1e0, 3);
+    read(0x0007, 3, 0xa0a1e0, 1);
+    read(0x0007, 3, 0xa0a1e0, 2);
+    read(0x0007, 3, 0xa0a1e0, 3);
 }
 
 pub(crate) fn long_rows() {
@@ -93,24 +92,24 @@ pub(crate) fn long_rows() {
 pub(crate) fn first_of_two() {
     say(b"11 goes before 12 and 16, 13 under three bytes before 12, 12 before 13, 14 and 16\n");
     read_long(4097, 0x00, 0);
-    read(2, 0x0000, 3);
-    read(3, 0x0000a0, 3);
-    read(3, 0x0000c0, 3);
-    read(4, 0x0000a0e0, 0);
+    read(0x0000, 0, 0, 3);
+    read(0x0000, 1, 0xa0, 3);
+    read(0x0000, 1, 0xb8, 3);
+    read(0x0000, 2, 0xa0e0, 0);
 }
 
 pub(crate) fn first_step() {
     say(
         b"13 or 14 at the first step that has it: 14 then 13, 13 although its device would be over 23, and although its last eight notes would be absent\n",
     );
-    read(3, 0x0007b8, 3);
-    read(4, 0x0007402e, 3);
-    read(8, 0x0007c003fc000000, 3);
+    read(0x0007, 1, 0xb8, 3);
+    read(0x0007, 2, 0x402e, 3);
+    read(0x0007, 6, 0xc003fc000000, 3);
 }
 
 pub(crate) fn last_of_two() {
     say(b"13, 14 and 15 go before 16, 14 before 15\n");
-    read(4, 0x0007a0a0, 0);
-    read(4, 0x0007b8e1, 0);
-    read(4, 0x0007a0e1, 0);
+    read(0x0007, 2, 0xa0a0, 0);
+    read(0x0007, 2, 0xb8e1, 0);
+    read(0x0007, 2, 0xa0e1, 0);
 }

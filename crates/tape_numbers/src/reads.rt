@@ -1,7 +1,6 @@
 // A tape is read into a row, and what comes back is printed. Each place of the row holds 7 before and is shown after: a refusal
 // leaves it, and an accepted tape leaves the places beyond its steps.
 use crate::said::bytes_lent;
-use crate::said::bytes_of;
 use crate::said::say;
 use crate::said::say_hexadecimal;
 use crate::said::say_number;
@@ -42,17 +41,6 @@ fn say_word(word: u64) {
     say_hexadecimal(word, 1);
 }
 
-// A number of so many bytes at the top of 64 bits.
-fn at_top(number: u64, length: usize) -> u64 {
-    if length == 0 {
-        return 0;
-    }
-    if 8 < length {
-        return number;
-    }
-    number << (64 - 8 * length)
-}
-
 fn read_into(tape: &[u8], row: &mut [u64]) {
     say_read(tape::read_tape(tape, row));
     say_check(tape::tape_check(tape));
@@ -65,49 +53,57 @@ fn say_row(first: u64, second: u64, third: u64) {
     say(b"\n");
 }
 
-// The bytes of a tape of so many bytes, which a number is.
-fn say_tape(length: usize, number: u64) {
-    say(b"  ");
-    say_hexadecimal(number, std::num::wrapping_add_usize(length, length));
+// A number of so many bytes at the top of 64 bits.
+fn at_top(number: u64, bytes: usize) -> u64 {
+    if bytes == 0 {
+        return 0;
+    }
+    if 8 < bytes {
+        return number;
+    }
+    number << (64 - 8 * bytes)
 }
 
-// Reads the tape of so many bytes that a number is into the first places of a row of three.
-pub(crate) fn read(length: usize, number: u64, places: usize) {
-    say_tape(length, number);
-    let bytes = bytes_of(at_top(number, length));
-    let mut row = [7u64; 3];
-    let n = bytes_lent(length, &bytes);
-    let k = words_lent(places, &row);
-    say_places(k);
-    read_into(&bytes[..n], &mut row[..k]);
-    say_row(row[0], row[1], row[2]);
+// The lowest byte of a number.
+fn byte(number: u64) -> u8 {
+    (number % 256) as u8
 }
 
-// The tape of first boxes 0, 1 and 2 and the eight bytes of a number behind them.
-fn ten_bytes(part: u64) -> [u8; 10] {
-    let bytes = bytes_of(part);
+// First boxes, and behind them the eight bytes of a number.
+fn ten_bytes(first: u16, part: u64) -> [u8; 10]
+    ensures { λ r. ⌜ 10 ≡ length r ⌝ }
+{
     [
-        0x00,
-        0x07,
-        bytes[0],
-        bytes[1],
-        bytes[2],
-        bytes[3],
-        bytes[4],
-        bytes[5],
-        bytes[6],
-        bytes[7],
+        byte(first as u64 >> 8),
+        byte(first as u64),
+        byte(part >> 56),
+        byte(part >> 48),
+        byte(part >> 40),
+        byte(part >> 32),
+        byte(part >> 24),
+        byte(part >> 16),
+        byte(part >> 8),
+        byte(part),
     ]
 }
 
-// Reads such a tape, in which a long Ask and the end mark have room, into a row of three.
-pub(crate) fn read_ten(part: u64) {
-    say(b"  0007");
-    say_hexadecimal(part, 16);
-    let bytes = ten_bytes(part);
+fn say_tape(first: u16, behind: usize, part: u64) {
+    say(b"  ");
+    say_hexadecimal(first as u64, 4);
+    if behind != 0 {
+        say_hexadecimal(part, std::num::wrapping_add_usize(behind, behind));
+    }
+}
+
+// Reads the tape of first boxes and so many bytes behind them, which a number is, into the first places of a row of three.
+pub(crate) fn read(first: u16, behind: usize, part: u64, places: usize) {
+    say_tape(first, behind, part);
+    let bytes = ten_bytes(first, at_top(part, behind));
     let mut row = [7u64; 3];
-    say_places(3);
-    read_into(&bytes, &mut row);
+    let n = bytes_lent(std::num::wrapping_add_usize(2, behind), &bytes);
+    let k = words_lent(places, &row);
+    say_places(k);
+    read_into(&bytes[..n], &mut row[..k]);
     say_row(row[0], row[1], row[2]);
 }
 

@@ -1,7 +1,5 @@
-// What the examples of reading and of writing share: printing, and bytes as one number.
+// What the examples of reading and of writing share: printing, and how much is lent.
 use libc::STDOUT_FILENO;
-ghost use mathlib.Core.Path.{_≡_};
-ghost use lib.ListN.{length};
 ghost use Rattle.io.specs.Counts.{Counts};
 
 pub(crate) fn say(text: &[u8]) {
@@ -35,36 +33,4 @@ pub(crate) fn words_lent(number: usize, words: &[u64]) -> usize
         return number;
     }
     words.len()
-}
-
-fn byte(number: u64) -> u8 {
-    (number % 256) as u8
-}
-
-// The eight bytes of a number, the highest first.
-pub(crate) fn bytes_of(number: u64) -> [u8; 8]
-    ensures { λ r. ⌜ 8 ≡ length r ⌝ }
-{
-    [
-        byte(number >> 56),
-        byte(number >> 48),
-        byte(number >> 40),
-        byte(number >> 32),
-        byte(number >> 24),
-        byte(number >> 16),
-        byte(number >> 8),
-        byte(number),
-    ]
-}
-
-fn with_byte(number: u64, byte: u8) -> u64 {
-    (number << 8) | byte as u64
-}
-
-// The number of eight bytes, the highest first.
-pub(crate) fn number_of(bytes: [u8; 8]) -> u64 {
-    let second = with_byte(with_byte(0, bytes[0]), bytes[1]);
-    let fourth = with_byte(with_byte(second, bytes[2]), bytes[3]);
-    let sixth = with_byte(with_byte(fourth, bytes[4]), bytes[5]);
-    with_byte(with_byte(sixth, bytes[6]), bytes[7])
 }

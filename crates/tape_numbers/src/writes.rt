@@ -1,7 +1,6 @@
 // First boxes and words are written into a buffer, and what comes back is printed. Each byte of the buffer holds 55 before and is
 // shown after: a refusal leaves it, and a tape leaves the bytes beyond it.
 use crate::said::bytes_lent;
-use crate::said::number_of;
 use crate::said::say;
 use crate::said::say_hexadecimal;
 use crate::said::say_number;
@@ -28,9 +27,17 @@ fn say_size(size: usize) {
     say(b" bytes: ");
 }
 
-fn say_buffer(bytes: [u8; 8]) {
+fn with_byte(number: u64, byte: u8) -> u64 {
+    (number << 8) | byte as u64
+}
+
+fn say_buffer(bytes: [u8; 10]) {
     say(b", buffer ");
-    say_hexadecimal(number_of(bytes), 16);
+    say_hexadecimal(with_byte(bytes[0] as u64, bytes[1]), 4);
+    let fourth = with_byte(bytes[2] as u64, bytes[3]);
+    let sixth = with_byte(with_byte(fourth, bytes[4]), bytes[5]);
+    let eighth = with_byte(with_byte(sixth, bytes[6]), bytes[7]);
+    say_hexadecimal(with_byte(with_byte(eighth, bytes[8]), bytes[9]), 16);
     say(b"\n");
 }
 
@@ -41,45 +48,15 @@ fn say_word(first: u16, word: u64) {
     say_hexadecimal(word, 16);
 }
 
-// Writes one word into the first bytes of a buffer of eight.
+// Writes one word into the first bytes of a buffer of ten, all of which a long Ask takes.
 pub(crate) fn write(first: u16, word: u64, size: usize) {
     say_word(first, word);
     let words = [word];
-    let mut buffer = [0x55u8; 8];
+    let mut buffer = [0x55u8; 10];
     let k = bytes_lent(size, &buffer);
     say_size(k);
     say_written(tape::write_tape(first, &words, &mut buffer[..k]));
     say_buffer(buffer);
-}
-
-fn say_ten(bytes: [u8; 10]) {
-    say(b", buffer ");
-    say_hexadecimal(bytes[0] as u64, 2);
-    say_hexadecimal(bytes[1] as u64, 2);
-    say_hexadecimal(
-        number_of([
-            bytes[2],
-            bytes[3],
-            bytes[4],
-            bytes[5],
-            bytes[6],
-            bytes[7],
-            bytes[8],
-            bytes[9],
-        ]),
-        16,
-    );
-    say(b"\n");
-}
-
-// Writes one word into a buffer of ten bytes, all of which a long Ask takes.
-pub(crate) fn write_ten(first: u16, word: u64) {
-    say_word(first, word);
-    let words = [word];
-    let mut buffer = [0x55u8; 10];
-    say_size(10);
-    say_written(tape::write_tape(first, &words, &mut buffer));
-    say_ten(buffer);
 }
 
 // So many words: Stop of device 0 in each, and this as the last one.
@@ -98,7 +75,7 @@ fn say_long_row(count: usize, last: u64) {
     say_hexadecimal(last, 16);
 }
 
-// Writes such words into the first bytes of a buffer of 4,097, of which the first four and the last four are shown.
+// Writes such words into the first bytes of a buffer of 4,097, of which the first five and the last five are shown.
 pub(crate) fn write_long(count: usize, last: u64, size: usize) {
     say_long_row(count, last);
     let words = long_row(count, last);
@@ -112,6 +89,8 @@ pub(crate) fn write_long(count: usize, last: u64, size: usize) {
         buffer[1],
         buffer[2],
         buffer[3],
+        buffer[4],
+        buffer[4092],
         buffer[4093],
         buffer[4094],
         buffer[4095],

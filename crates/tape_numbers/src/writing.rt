@@ -2,7 +2,6 @@
 use crate::said::say;
 use crate::writes::write;
 use crate::writes::write_long;
-use crate::writes::write_ten;
 
 // Words: Stop of device 0, and a long Ask with no note, which is no step.
 const STOP: u64 = 0xa000000000000000;
@@ -26,9 +25,9 @@ pub(crate) fn last_eight_notes() {
     say(
         b"14 write a long Ask with its first eight notes alone, with none, and with the first of its last eight\n",
     );
-    write_ten(0x0007, 0xc003fc0000000000);
-    write_ten(0x0007, NO_NOTE);
-    write_ten(0x0007, 0xc004000000000000);
+    write(0x0007, 0xc003fc0000000000, 10);
+    write(0x0007, NO_NOTE, 10);
+    write(0x0007, 0xc004000000000000, 10);
 }
 
 pub(crate) fn devices() {
