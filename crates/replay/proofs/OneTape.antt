@@ -1,29 +1,34 @@
 -- One tape for one run of steps: a step says which kind and numbers its word has (`fieldsFor`, `step-fields`), so its word is one (`word-settled`),
 -- and the first boxes and the steps settle an accepted tape (`tape-settled`).
-use Prim.Native.Nat.{ℕ, zero, suc, _≤_, _<_}
+use Prim.Native.Nat.{ℕ, zero, suc, _^_, _<_}
 use mathlib.Core.Bool.{Bool, true, false}
 use mathlib.Core.List.{List, [], _∷_, map}
 use mathlib.Core.Logic.{_≢_}
 use mathlib.Core.Path.{_≡_, refl, sym, ap, ap₂, _∙_}
+use native.Mathlib.Nat.{lt-irrefl}
 use native.Mathlib.Omega.{arith}
-use lib.Dec.{ltb}
-use lib.ListN.{length, drop, getD}
-use borrow.Author.Tests.{lt-ltb, le-ltb, ltb-true}
+use lib.Dec.{leb, ltb}
+use lib.ListN.{length, take, drop, getD}
+use borrow.Author.Tests.{lt-ltb, le-ltb, ltb-true, ltb-false, leb-true}
 use Rattle.sets.specs.Choice.{pick}
-use Rattle.tape.specs.Bits.{bits, Bytes}
-use Rattle.tape.specs.Edition.{firstEdition}
+use Rattle.tape.specs.Bits.{bit, bits, num, Bytes}
+use Rattle.tape.specs.Edition.{field, firstEdition}
+use Rattle.tape.specs.declared.Fields.{Fields}
 use Rattle.tape.specs.Layout.{fields, width, numbers, kindOf, fieldsOf, fieldsIn, noField}
 use Rattle.tape.specs.Reading.{given, wordsOf, readTape, firstBoxes}
 use Rattle.tape.specs.Statements.{MayHold}
 use Rattle.tape.specs.Writing.{wide, isStep, allSteps, writeTape}
 use Rattle.tape.proofs.StepLaws.{wide-none}
 use Rattle.tape.proofs.StepWords.{word-may-hold, word-by-fields}
+use Rattle.tape.proofs.FieldWords.{EachMayHold, WordFor, word-for}
 use Rattle.tape.proofs.WritingLaws.{all-cons}
 use Rattle.tape.proofs.RoundTrip.{accepted-part}
 use Rattle.tape.proofs.Statements.{statements as of-tapes}
 use Rattle.devices.specs.declared.Step.{Step}
 use Rattle.devices.specs.declared.Step.the-variants.{Ask, Advance, Deliver, Lose, Repeat, Stop}
 use Rattle.sets.proofs.BoundedLaws.{pick-true, pick-false}
+use Rattle.rules.specs.Table.{row, inRange}
+use Rattle.replay.specs.Statements.{SetsFit, HasWord}
 use Rattle.replay.specs.Replay.{ofFields, stepOf, decodedNumber}
 use Rattle.replay.specs.declared.Decoded.{Decoded}
 use Rattle.replay.specs.declared.Decoded.the-variants as D
@@ -87,6 +92,76 @@ word-settled x y step e f =
     let h = decoded-is-step x step e in
     let i = decoded-is-step y step f in
     word-by-fields firstEdition x y h i (step-fields x step h e ∙ sym (step-fields y step i f))
+
+-- ---- A word for each step
+
+-- fields as the code has them, of the kind and the numbers
+fieldsFrom : List ℕ → Fields
+fieldsFrom l = record { kind = getD l 0 0; first = getD l 1 0; second = getD l 2 0; third = getD l 3 0; fourth = getD l 4 0 }
+
+from-word : (k : ℕ) (ns : List ℕ) (step : Step) → WordFor firstEdition k ns → D.Step step ≡ ofFields (fieldsFrom (k ∷ ns)) → HasWord step
+unfolding fieldsFrom fieldsIn
+from-word k ns step w e =
+    record { word = w .word-is; is = sym (step-is (w .word-is) (fieldsFrom (k ∷ ns)) (D.Step step) (w .is-step) (ap fieldsFrom (sym (w .has))) e) }
+
+-- a kind of the table other than the end mark's, and numbers that its fields may hold, are a step word's
+known-word : (k : ℕ) (ns : List ℕ) → k < 7 → EachMayHold (fields firstEdition k) ns → WordFor firstEdition k ns
+unfolding num bit
+known-word k ns h each = word-for firstEdition k ns (known k h) (omega arith) (λ e. lt-irrefl k (omega (arith, mark-kind))) each
+  where
+    mark-kind : num (take 3 (firstEdition .mark)) ≡ 7
+    mark-kind = refl
+
+    known : (k : ℕ) → k < 7 → width firstEdition k ≢ 0
+    known zero h e = lt-irrefl 0 (omega arith)
+    known (suc zero) h e = lt-irrefl 0 (omega arith)
+    known (suc (suc zero)) h e = lt-irrefl 0 (omega arith)
+    known (suc (suc (suc zero))) h e = lt-irrefl 0 (omega arith)
+    known (suc (suc (suc (suc zero)))) h e = lt-irrefl 0 (omega arith)
+    known (suc (suc (suc (suc (suc zero))))) h e = lt-irrefl 0 (omega arith)
+    known (suc (suc (suc (suc (suc (suc zero)))))) h e = lt-irrefl 0 (omega arith)
+    known (suc (suc (suc (suc (suc (suc (suc k))))))) h e = lt-irrefl 0 (omega arith)
+
+-- numbers up to a bound, in the fields of the table
+tabletHeld : (n : ℕ) → leb n 7 ≡ true → MayHold (field 3 0 7) n
+tabletHeld n h = record { least = omega arith; most = leb-true n 7 h; fits = omega (arith, leb-true n 7 h) }
+
+slotHeld : (n : ℕ) → leb n 127 ≡ true → MayHold (field 7 0 127) n
+slotHeld n h = record { least = omega arith; most = leb-true n 127 h; fits = omega (arith, leb-true n 127 h) }
+
+boxesHeld : (n : ℕ) → n < 2 ^ 16 → MayHold (field 16 0 65535) n
+boxesHeld n h = record { least = omega arith; most = omega arith; fits = h }
+
+pub word-of-step : (step : Step) → inRange (row step .names) ≡ true → SetsFit step → HasWord step
+unfolding fieldsFrom
+word-of-step (Ask tablet own pair) h fit = go (ltb own 256) refl
+  where
+    go : (b : Bool) → ltb own 256 ≡ b → HasWord (Ask tablet own pair)
+    go true e =
+        from-word 0 (tablet ∷ own ∷ pair .added ∷ pair .removed ∷ []) _
+        (known-word 0 _ (omega arith) (
+          tabletHeld tablet h,
+          (
+            record { least = omega arith; most = omega (arith, ltb-true own 256 e); fits = omega (arith, ltb-true own 256 e) },
+            (boxesHeld (pair .added) (fit .1), (boxesHeld (pair .removed) (fit .2), tt)),
+          ),
+        )) refl
+    go false e =
+        from-word 6 (tablet ∷ own ∷ pair .added ∷ pair .removed ∷ []) _
+        (known-word 6 _ (omega arith) (
+          tabletHeld tablet h,
+          (
+            record { least = ltb-false own 256 e; most = omega (arith, fit .0); fits = fit .0 },
+            (boxesHeld (pair .added) (fit .1), (boxesHeld (pair .removed) (fit .2), tt)),
+          ),
+        )) refl
+word-of-step (Advance tablet) h fit = from-word 1 (tablet ∷ []) _ (known-word 1 _ (omega arith) (tabletHeld tablet h, tt)) refl
+word-of-step (Deliver slot) h fit = from-word 2 (slot ∷ []) _ (known-word 2 _ (omega arith) (slotHeld slot h, tt)) refl
+word-of-step (Lose slot) h fit = from-word 3 (slot ∷ []) _ (known-word 3 _ (omega arith) (slotHeld slot h, tt)) refl
+word-of-step (Repeat slot) h fit = from-word 4 (slot ∷ []) _ (known-word 4 _ (omega arith) (slotHeld slot h, tt)) refl
+word-of-step (Stop device) h fit =
+    from-word 5 (device ∷ []) _
+    (known-word 5 _ (omega arith) (record { least = omega arith; most = leb-true device 23 h; fits = omega (arith, leb-true device 23 h) }, tt)) refl
 
 -- ---- The tape of steps
 

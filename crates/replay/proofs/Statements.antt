@@ -11,7 +11,7 @@ use Rattle.replay.specs.Replay.{stepOf, decodedNumber}
 use Rattle.replay.specs.Statements.{Statements}
 use Rattle.replay.proofs.Words.{step-none}
 use Rattle.replay.proofs.Accepted.{word-plays, accepted-plays}
-use Rattle.replay.proofs.OneTape.{word-settled, tape-settled}
+use Rattle.replay.proofs.OneTape.{word-of-step, word-settled, tape-settled}
 
 numbered : (word : ℕ) → decodedNumber (stepOf word) ≡ pick (isStep firstEdition word) 0 14
 numbered word = go (isStep firstEdition word) refl
@@ -29,6 +29,7 @@ statements =
             play-word = λ word run x y p q. p .settled ∙ sym (q .settled);
           };
       numbered = numbered;
+      has-word = word-of-step;
       one-word = word-settled;
       one-tape = tape-settled;
       accepted = accepted-plays;

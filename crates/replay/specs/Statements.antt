@@ -1,12 +1,15 @@
 -- What holds of a tape that is played, beside what each call does: a contract settles its result, a word is refused by its number exactly
--- when it is no step, steps are on one tape only, and each word of an accepted tape is a step, which playing it takes. Proved in proofs/Statements.
-use Prim.Native.Nat.{ℕ, _<_}
+-- when it is no step, a step has one word, steps are on one tape only, and each word of an accepted tape is a step, which playing it takes. Proved in proofs/Statements.
+use Prim.Native.Nat.{ℕ, _^_, _<_}
+use mathlib.Core.Bool.{true}
 use mathlib.Core.List.{List, map}
 use mathlib.Core.Path.{_≡_}
 use lib.ListN.{length, getD}
 use Rattle.sets.specs.Choice.{pick}
 use Rattle.sets.specs.Settles.{Settles}
 use Rattle.devices.specs.declared.Step.{Step}
+use Rattle.devices.specs.declared.Step.the-variants.{Ask, Advance, Deliver, Lose, Repeat, Stop}
+use Rattle.rules.specs.Table.{row, inRange}
 use Rattle.state.specs.declared.Run.{Run}
 use Rattle.state.specs.declared.Stepped.{Stepped}
 use Rattle.parlour.specs.Steps.{taken}
@@ -29,11 +32,27 @@ pub record Plays (word : ℕ) : Type 0 where
   pub is : stepOf word ≡ D.Step step
   pub takes : (r : Run) → played word r ≡ taken step r
 
+-- the sets of a step are of sixteen
+abbrev pub SetsFit : Step → Type 0
+SetsFit (Ask tablet own pair) = (own < 2 ^ 16) × (pair .added < 2 ^ 16) × (pair .removed < 2 ^ 16)
+SetsFit (Advance tablet) = Unit {0}
+SetsFit (Deliver slot) = Unit {0}
+SetsFit (Lose slot) = Unit {0}
+SetsFit (Repeat slot) = Unit {0}
+SetsFit (Stop device) = Unit {0}
+
+-- a word that is the step
+pub record HasWord (step : Step) : Type 0 where
+  pub word : ℕ
+  pub is : stepOf word ≡ D.Step step
+
 pub record Statements : Type 0 where
   pub settled : Settled
   -- "a step word that is none" is 14, and no other
   pub numbered : (word : ℕ) → decodedNumber (stepOf word) ≡ pick (isStep firstEdition word) 0 14
-  -- "A long Ask whose last eight notes are all absent is not a tape step": so each step has one word
+  -- "there is one Ask, with 16 notes, any of them absent": each step that names what there is has a word
+  pub has-word : (step : Step) → inRange (row step .names) ≡ true → SetsFit step → HasWord step
+  -- "A long Ask whose last eight notes are all absent is not a tape step": so no step has two
   pub one-word : (x y : ℕ) (step : Step) → stepOf x ≡ D.Step step → stepOf y ≡ D.Step step → x ≡ y
   -- and the same steps from the same first boxes are on one tape only
   pub one-tape : (a b xs ys : List ℕ) → Bytes a → Bytes b → readTape a ≡ given xs → readTape b ≡ given ys

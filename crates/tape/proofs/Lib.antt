@@ -8,6 +8,7 @@ pub mod MarkLaws
 pub mod ReadingLaws
 pub mod StepLaws
 pub mod StepWords
+pub mod FieldWords
 pub mod WritingLaws
 pub mod TapeLaws
 pub mod PromiseLaws
