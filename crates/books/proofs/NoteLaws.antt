@@ -2,22 +2,23 @@
 -- by the laws of sets over the width (`notes-joined`, `notes-decided`), and a note of joined notes is in one side; a tablet's own notes stand at
 -- their places among all, and are those that it owns.
 use Prim.Native.Nat.{ℕ, _+_, _-_, _*_, _/_, _%_, _^_, _≤_, _<_}
-use mathlib.Core.Bool.{Bool, true, false}
+use mathlib.Core.Bool.{Bool, true, false, true≢false}
 use mathlib.Core.Path.{_≡_, refl, sym, ap, ap₂, _∙_}
-use mathlib.Core.Logic.{_⊎_}
+use mathlib.Core.Logic.{_⊎_, ⊎-elim}
 use native.Mathlib.Nat.{lt-irrefl, mod-eq-of-lt, mod-lt, div-eq-of-lt, mul-mod-left, mul-div-cancel, mul-assoc}
 use native.Mathlib.Omega.{arith}
 use lib.Dec.{ltb, eqb}
 use lib.Pow.{shl-exact, shl-shr, shr-shr, pow-add, pow-pos}
 use borrow.Author.Tests.{lt-ltb, le-ltb, ltb-true, ltb-false, eq-eqb, ne-eqb, eqb-true, eqb-false}
 use Rattle.sets.specs.Choice.{pick}
-use Rattle.sets.specs.Sets.{digit, has, union}
+use Rattle.sets.specs.Sets.{digit, has, union, inside}
 use Rattle.sets.proofs.Semilattice.{Semilattice}
-use Rattle.sets.proofs.SetLaws.{sets-joined, has-digit, has-union, union-has, digit-low}
-use Rattle.sets.proofs.Single.{none-in-empty, in-moved}
-use Rattle.sets.proofs.BoundedLaws.{pick-true, pick-false}
+use Rattle.sets.proofs.SetLaws.{sets-joined, has-digit, digit-has, has-inside, has-union, union-has, digit-low, digit-high}
+use Rattle.sets.proofs.Single.{none-in-empty, below-width, in-moved}
+use Rattle.sets.proofs.BoundedLaws.{both-on, pick-true, pick-false}
 use Rattle.sets.proofs.Parts.{of-one, of-two, Decides, numbers-decided, decided-of-one, decided-of-two}
 use Rattle.books.specs.declared.Notes.{Notes}
+use Rattle.books.specs.Statements.{InWords}
 use Rattle.books.specs.Books.{owner, notesPart, hasNote, notesOf, noNotes, ownNotes, notesInside, joinNotes, sameNotes}
 
 -- ---- Joining, containment and equality
@@ -88,6 +89,47 @@ in-set set note h = go (ltb note 128) refl (has-digit (note % 64) (notesPart (no
     go false e i =
         let past : 1 < note / 64 = omega (arith, ltb-false note 128 e) in
         absurd (none-in-empty (note % 64) (ap (digit (note % 64)) (part-past (notesOf set) (note / 64) past) ∙ i))
+
+pub set-notes : (set note : ℕ) → set < 2 ^ 128 → hasNote note (notesOf set) ≡ has note set
+set-notes set note l = go (ltb note 128) refl
+  where
+    go : (t : Bool) → ltb note 128 ≡ t → hasNote note (notesOf set) ≡ has note set
+    go true e = ap (λ (n : ℕ). eqb n 1) (note-digit set note (ltb-true note 128 e))
+    go false e =
+        let past : 1 < note / 64 = omega (arith, ltb-false note 128 e) in
+        ap (has (note % 64)) (sym (part-past (notesOf set) (note / 64) past))
+        ∙ ap (λ (n : ℕ). eqb n 1) (digit-high 0 (note % 64) 0 (omega arith) (omega arith) ∙ sym (digit-high 128 note set l (ltb-false note 128 e)))
+
+pub note-joined : (note : ℕ) (a b : Notes) → hasNote note (joinNotes a b) ≡ pick (hasNote note a) true (hasNote note b)
+note-joined note a b = go (hasNote note a) refl (hasNote note b) refl (hasNote note (joinNotes a b)) refl
+  where
+    go : (s : Bool) → hasNote note a ≡ s → (t : Bool) → hasNote note b ≡ t → (u : Bool) → hasNote note (joinNotes a b) ≡ u → u ≡ pick s true t
+    go true e t f u g = sym g ∙ note-stays note a b e
+    go false e true f u g = sym g ∙ ap (hasNote note) (notes-joined .comm a b) ∙ note-stays note b a f
+    go false e false f true g =
+        absurd (⊎-elim (λ h. true≢false (sym h ∙ e)) (λ h. true≢false (sym h ∙ f)) (note-in-join note a b g))
+    go false e false f false g = refl
+
+pub notes-contained : (a b : Notes) → notesInside a b ≡ true → (note : ℕ) → hasNote note a ≡ true → hasNote note b ≡ true
+notes-contained a b h note i = sym (ap (hasNote note) (notes-joined .inside-eq a b h)) ∙ note-stays note a b i
+
+-- a note by its place in a part
+note-at : (k n : ℕ) (notes : Notes) → n < 64 → hasNote (64 * k + n) notes ≡ has n (notesPart notes k)
+note-at k n notes l =
+    let place : (64 * k + n) % 64 ≡ n = omega arith in
+    let part : (64 * k + n) / 64 ≡ k = omega arith in
+    ap₂ (λ (i j : ℕ). has i (notesPart notes j)) place part
+
+pub notes-inside : (a b : Notes) → InWords a → ((note : ℕ) → hasNote note a ≡ true → hasNote note b ≡ true) → notesInside a b ≡ true
+notes-inside a b words each = both-on (inside (a .low) (b .low)) (inside (a .high) (b .high)) (part 0 (words .low)) (part 1 (words .high))
+  where
+    part : (k : ℕ) → notesPart a k < 2 ^ 64 → inside (notesPart a k) (notesPart b k) ≡ true
+    part k l =
+        has-inside (notesPart a k) (notesPart b k)
+        (λ n h.
+        let small = below-width 64 (notesPart a k) n l h in
+        has-digit n (notesPart b k)
+        (sym (note-at k n b small) ∙ each (64 * k + n) (note-at k n a small ∙ digit-has n (notesPart a k) h)))
 
 pub no-note : (note : ℕ) → hasNote note noNotes ≡ true → ⊥
 no-note note h = none-in-empty note (in-set 0 note h)

@@ -12,7 +12,7 @@ use Rattle.sets.proofs.MajorityLaws.{no-members-no-majority, members-only}
 use Rattle.books.specs.declared.Config.{Config}
 use Rattle.books.specs.Books.{membersOf, joinConfigs, hasMajority}
 use Rattle.books.specs.Statements.{Statements}
-use Rattle.books.proofs.NoteLaws.{own-at, own-note}
+use Rattle.books.proofs.NoteLaws.{set-notes, note-joined, notes-contained, notes-inside, own-at, own-note}
 
 never-returns : (c d : Config) (box : ℕ) → has box (c .removed) ≡ true → has box (membersOf (joinConfigs c d)) ≡ false
 never-returns c d box h =
@@ -37,4 +37,4 @@ unfolding majorityOf
 only-members c answered = members-only one (membersOf c) answered
 
 pub statements : Statements
-statements = record { own-notes = own-at; owned = own-note; never-returns = never-returns; no-members = no-members; only-members = only-members }
+statements = record { weights = set-notes; joined = note-joined; contained = notes-contained; each-contained = notes-inside; own-notes = own-at; owned = own-note; never-returns = never-returns; no-members = no-members; only-members = only-members }

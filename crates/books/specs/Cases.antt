@@ -1,4 +1,4 @@
--- Small cases of 01, computed: one table under one statement.
+-- Small cases of 01 and of request [1], computed: one table under one statement.
 use Prim.Native.Nat.{ℕ, _-_, _^_}
 use mathlib.Core.Bool.{true, false}
 use mathlib.Core.Path.{_≡_, refl}

@@ -1,6 +1,6 @@
--- 01, "On both sides of each edge", with the edges of request [1]: those marked P, what sixteen notes each change, and the floor of "R 2",
--- in one table under one statement (`edges-hold`), each seen by computing the rules themselves.
-use Prim.Native.Nat.{ℕ, _+_, _^_}
+-- 01, "On both sides of each edge": the edges marked P, the case of "R 2", and the edges of request [1], in one table under one statement
+-- (`edges-hold`), each seen by computing the rules themselves.
+use Prim.Native.Nat.{ℕ, _+_, _*_, _^_}
 use mathlib.Core.Bool.{Bool, true, false}
 use mathlib.Core.List.{List, [], _∷_}
 use mathlib.Core.Option.{Option, none, some}
@@ -12,16 +12,19 @@ use Rattle.sets.specs.Majority.{weigh, one, majority, majorityOf}
 use Rattle.books.specs.declared.Book.{Book}
 use Rattle.books.specs.declared.Config.{Config}
 use Rattle.books.specs.declared.Listed.{Listed}
-use Rattle.books.specs.Books.{hasNote, notesOf, ownNotes, noConfig, membersOf, hasMajority}
+use Rattle.books.specs.declared.Notes.{Notes}
+use Rattle.books.specs.Books.{notesOf, ownNotes, noConfig, membersOf, hasMajority}
 use Rattle.books.specs.Queried.{firstPlace, placeOf, withChange, outside, joinedWith, everyMajority, askedBoxes}
 use Rattle.devices.specs.declared.Floor.{Floor}
 use Rattle.devices.specs.declared.Floor.the-variants.{Unset, Set}
+use Rattle.devices.specs.declared.Outcome.{Outcome}
+use Rattle.devices.specs.declared.Outcome.the-variants.{Refused, Round}
 use Rattle.devices.specs.declared.Phase.{Phase}
 use Rattle.devices.specs.declared.Phase.the-variants.{Idle, Asks}
 use Rattle.devices.specs.declared.Step.{Step}
 use Rattle.devices.specs.declared.Step.the-variants.{Ask, Advance, Deliver}
 use Rattle.devices.specs.Contents.{merged}
-use Rattle.devices.specs.Effects.{numberOf, only, copies, refuse}
+use Rattle.devices.specs.Effects.{only, copies, refuse}
 use Rattle.rules.specs.Rules.{begun, askWith, askPair, ask, marked, deliver, decided, allowed, steady, commit, adoptOr, advanceFrom, advance, stop, ruled, effectOf}
 use Rattle.state.specs.declared.Run.{Run}
 use Rattle.state.specs.Slots.{all, many, laid}
@@ -72,28 +75,28 @@ floorOf (Asks a) = a .floor
 -- ---- The table
 
 -- a row: boxes added, removed and answered, with the majority's yes or no; a tape, with what reading it comes to; a tape, with the one device that
--- its steps leave stopped; a tape, with a device and a note, and whether the device's candidates then have it; first boxes, steps, the latest first,
--- a tablet and a set of changes, with what the tablet then queries; first boxes, steps, the latest first, and a tablet, with its floor;
--- or first boxes, a step and the steps before it, the latest first, with the step's number
+-- its steps leave stopped; a tape and a device, with the device's candidates then; first boxes, steps, the latest first, a tablet and
+-- a set of changes, with what the tablet then queries; the same without changes, with the tablet's floor;
+-- or first boxes, a step and the steps before it, the latest first, with the step's outcome
 pub data Edge : Type 0 where
   a-majority : ℕ → ℕ → ℕ → Bool → Edge
   a-tape : List ℕ → Result → Edge
   a-stop : List ℕ → ℕ → Edge
-  a-note : List ℕ → ℕ → ℕ → Bool → Edge
+  a-candidates : List ℕ → ℕ → Notes → Edge
   a-query : ℕ → List Step → ℕ → ℕ → Query → Edge
   a-floor : ℕ → List Step → ℕ → Floor → Edge
-  a-run : ℕ → Step → List Step → ℕ → Edge
+  a-run : ℕ → Step → List Step → Outcome → Edge
 
 -- what a row says
 abbrev pub Says : Edge → Type 0
 Says (a-majority added removed answered holds) = majorityOf added removed answered ≡ holds
 Says (a-tape tape outcome) = readTape tape ≡ outcome
 Says (a-stop tape device) = stateAfter tape .stopped ≡ only device
-Says (a-note tape device note there) = hasNote note (deviceAt device (stateAfter tape) .candidates) ≡ there
+Says (a-candidates tape device notes) = deviceAt device (stateAfter tape) .candidates ≡ notes
 Says (a-query boxes steps tablet changes query) =
     queried (after boxes steps .listed) changes (tabletAt tablet (after boxes steps) .phase) ≡ some query
 Says (a-floor boxes steps tablet floor) = floorOf (tabletAt tablet (after boxes steps) .phase) ≡ floor
-Says (a-run boxes step earlier number) = numberOf (taken step (after boxes earlier) .outcome) ≡ number
+Says (a-run boxes step earlier outcome) = taken step (after boxes earlier) .outcome ≡ outcome
 
 -- an ask of tablet 0 that removes box 0 of the one first box, its request heard by the box, and the answer by the tablet
 abbrev pub onlyBoxRemoved : List Step
@@ -107,17 +110,20 @@ ownConfig = record { answered = 0x0001; config = record { added = 0x0001; remove
 abbrev pub withRemoval : Query
 withRemoval = record { answered = 0x0001; config = record { added = 0x0001; removed = 0x0001 }; members = 0x0000; majority = false }
 
--- "Tablet 0 asks note 0, tablet 1 asks note 16. Box 0 hears tablet 0 first, and tablet 1 has answers from 0 and 1": its Advance, the latest step
-abbrev pub roundTwo : List Step
-roundTwo = Advance 1 ∷ Deliver 4 ∷ Deliver 3 ∷ Deliver 4 ∷ Deliver 3 ∷ Deliver 0 ∷ Ask 1 0x0001 noConfig ∷ Ask 0 0x0001 noConfig ∷ []
+-- "Tablet 0 asks note 0, tablet 1 asks note 16. Box 0 hears tablet 0 first, and tablet 1 has answers from 0 and 1"
+abbrev pub bothAsked : List Step
+bothAsked = Deliver 4 ∷ Deliver 3 ∷ Deliver 4 ∷ Deliver 3 ∷ Deliver 0 ∷ Ask 1 0x0001 noConfig ∷ Ask 0 0x0001 noConfig ∷ []
 
 -- "the floor holds notes 0 and 16"
-abbrev pub floorOfRoundTwo : Book
-floorOfRoundTwo = record { notes = notesOf (2 ^ 0 + 2 ^ 16); config = record { added = 0x0007; removed = 0x0000 } }
+abbrev pub bothNotes : Book
+bothNotes = record { notes = notesOf (2 ^ 0 + 2 ^ 16); config = record { added = 0x0007; removed = 0x0000 } }
 
--- a long Ask of tablet 7 with its highest note alone
-abbrev pub highestNote : List ℕ
-highestNote = 0x00 ∷ 0x07 ∷ 0xde ∷ 0x00 ∷ 0x00 ∷ 0x00 ∷ 0x00 ∷ 0x00 ∷ 0x03 ∷ 0x80 ∷ []
+-- tablet 7 asks its first eight notes by a short Ask; its highest note by a long one
+abbrev pub firstEightAsked : List ℕ
+firstEightAsked = 0x00 ∷ 0x07 ∷ 0x1f ∷ 0xfc ∷ 0x00 ∷ 0x00 ∷ 0x00 ∷ 0x03 ∷ 0x80 ∷ []
+
+abbrev pub highestAsked : List ℕ
+highestAsked = 0x00 ∷ 0x07 ∷ 0xde ∷ 0x00 ∷ 0x00 ∷ 0x00 ∷ 0x00 ∷ 0x00 ∷ 0x03 ∷ 0x80 ∷ []
 
 abbrev pub edges : List Edge
 edges =
@@ -140,15 +146,19 @@ edges =
     -- "A long Ask whose last eight notes are all absent is not a tape step": tablet 0 with own notes 0x0100, and with 0x00ff
     ∷ a-tape (0x00 ∷ 0x07 ∷ 0xc0 ∷ 0x04 ∷ 0x00 ∷ 0x00 ∷ 0x00 ∷ 0x00 ∷ 0x03 ∷ 0x80 ∷ []) (given (0xc004000000000000 ∷ []))
     ∷ a-tape (0x00 ∷ 0x07 ∷ 0xc0 ∷ 0x03 ∷ 0xfc ∷ 0x00 ∷ 0x00 ∷ 0x00 ∷ 0x03 ∷ 0x80 ∷ []) (refused 14)
-    -- "Tablet t is to own 16t to 16t+15": note 127 is the highest of tablet 7, and is the only one that this tape asks
-    ∷ a-note highestNote 7 127 true
-    ∷ a-note highestNote 7 126 false
+    -- too few bits come first, though the last eight notes are seen to be absent
+    ∷ a-tape (0x00 ∷ 0x07 ∷ 0xc0 ∷ 0x03 ∷ 0xfc ∷ 0x00 ∷ 0x00 ∷ 0x00 ∷ []) (refused 13)
+    -- "The old Ask stays and means the first eight of the sixteen": notes 112 to 119 of tablet 7
+    ∷ a-candidates firstEightAsked 7 (notesOf (0xff * 2 ^ 112))
+    -- "Tablet t is to own 16t to 16t+15": note 127 is the highest of tablet 7
+    ∷ a-candidates highestAsked 7 (notesOf (2 ^ 127))
     -- "first box 0 only, an ask removing box 0, box 0 answers: Advance is 6, as one queried configuration has no members"
     ∷ a-query 0x0001 onlyBoxRemoved 0 0 ownConfig
     ∷ a-query 0x0001 onlyBoxRemoved 0 (2 ^ 0) withRemoval
-    ∷ a-run 0x0001 (Advance 0) onlyBoxRemoved 6
-    -- "its Advance gives R 2": "tablet 1 asks note 16 and the floor holds notes 0 and 16"
-    ∷ a-floor 0x0007 roundTwo 1 (Set floorOfRoundTwo)
+    ∷ a-run 0x0001 (Advance 0) onlyBoxRemoved (Refused 6)
+    -- "its Advance gives R 2", and "the floor holds notes 0 and 16"
+    ∷ a-run 0x0007 (Advance 1) bothAsked (Round 2)
+    ∷ a-floor 0x0007 (Advance 1 ∷ bothAsked) 1 (Set bothNotes)
     ∷ []
 
 -- every row holds
@@ -161,4 +171,4 @@ unfolding after taken takenIf applied hereAt effectOf ruled ask askPair askWith 
     advanceFrom advance refuse copies merged firstPlace placeOf withChange outside joinedWith everyMajority askedBoxes times each unions howMany those weigh one majority
     majorityOf ownNotes fresh allDifferent properDesk proper all many laid bit odd bits num bitsOf word fieldsAllowed legal begins stepAt endAt
     kindAt readAt readFrom readSteps boxesIn headOf readIn playedAll played stepOf wide numbers fieldsOf fieldsIn stop
-edges-hold = (refl, (refl, (refl, (refl, (refl, (refl, (refl, (refl, (refl, (refl, (refl, (refl, (refl, (refl, (refl, (refl, (refl, (refl, (refl, (refl, (refl, tt)))))))))))))))))))))
+edges-hold = (refl, (refl, (refl, (refl, (refl, (refl, (refl, (refl, (refl, (refl, (refl, (refl, (refl, (refl, (refl, (refl, (refl, (refl, (refl, (refl, (refl, (refl, (refl, tt)))))))))))))))))))))))

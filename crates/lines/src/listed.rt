@@ -8,7 +8,7 @@ use streams::Out;
 use streams::put;
 use streams::put_decimal;
 
-// The notes in two digits where the first eight of the sixteen are all, as on the tape, else in four.
+// The notes in two digits where none of the last eight of the sixteen is there, which is a short Ask on the tape, else in four.
 fn put_ask(buffer: &mut [u8; 4096], out: Out, tablet: u8, notes: u16, pair: Config) -> Out {
     let after_tablet = put_decimal(buffer, out, b"ask ", tablet as u64);
     let digits: usize = if notes <= 0xff { 2 } else { 4 };

@@ -1,6 +1,5 @@
--- The promise is not empty: two runs, computed by the rules.
--- The first is the tape that 01 prints; it hands back a book. A version that refuses all, hands back the first book, does nothing, or merges on
--- the first delivery only gives another history. The second is 01's edge of two tablets that ask at once: an Advance that begins round 2.
+-- The promise is not empty: the tape that 01 prints, computed by the rules, hands back a book. A version that refuses all, hands back the first book,
+-- does nothing, or merges on the first delivery only gives another history.
 use mathlib.Core.Path.{_≡_, refl}
 use mathlib.Core.Logic.{inl}
 use mathlib.Core.List.{List, [], _∷_}
@@ -12,7 +11,7 @@ use Rattle.books.specs.Queried.{firstPlace, placeOf, outside, joinedWith, every
 use Rattle.devices.specs.declared.Step.{Step}
 use Rattle.devices.specs.declared.Step.the-variants.{Ask, Advance, Deliver}
 use Rattle.devices.specs.declared.Outcome.{Outcome}
-use Rattle.devices.specs.declared.Outcome.the-variants.{Done, Round, Committed}
+use Rattle.devices.specs.declared.Outcome.the-variants.{Done, Committed}
 use Rattle.devices.specs.Contents.{merged}
 use Rattle.devices.specs.Effects.{copies, refuse}
 use Rattle.rules.specs.Rules.{begun, askWith, askPair, ask, marked, deliver, decided, allowed, steady, commit, adoptOr, advanceFrom, advance, ruled, effectOf}
@@ -37,15 +36,10 @@ printed = Advance 0 ∷ delivered
 abbrev book : Book
 book = record { notes = notesOf 0x1; config = record { added = 0x7; removed = 0 } }
 
--- "Tablet 0 asks note 0, tablet 1 asks note 16. Box 0 hears tablet 0 first, and tablet 1 has answers from 0 and 1: its Advance gives R 2"
-abbrev at-once : List Step
-at-once = Advance 1 ∷ Deliver 4 ∷ Deliver 3 ∷ Deliver 4 ∷ Deliver 3 ∷ Deliver 0 ∷ Ask 1 1 noConfig ∷ Ask 0 1 noConfig ∷ []
-
 record Examples : Type 0 where
   printed-answers : answers (history 0x7 printed) ≡ Committed book ∷ Done ∷ Done ∷ Done ∷ Done ∷ Done ∷ []
   -- so there is a book that the promise speaks of
   printed-book : HandedBack (history 0x7 printed)
-  at-once-answers : answers (history 0x7 at-once) ≡ Round 2 ∷ Done ∷ Done ∷ Done ∷ Done ∷ Done ∷ Done ∷ Done ∷ []
 
 examples : Examples
 unfolding answers history after taken takenIf applied hereAt effectOf ruled ask askPair askWith begun marked deliver decided allowed steady
@@ -62,5 +56,4 @@ examples =
             happened = inl (refl, refl);
             hands-back = inl refl;
           };
-      at-once-answers = refl;
     }

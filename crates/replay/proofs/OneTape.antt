@@ -1,5 +1,5 @@
--- One tape for one run of steps: a step says which kind and numbers its word has (`fieldsFor`, `step-fields`), so its word is one (`word-settled`),
--- and the first boxes and the steps settle an accepted tape (`tape-settled`).
+-- One tape for one run of steps: a step says which kind and numbers its word has (`fieldsFor`, `step-fields`), so it has no two (`word-settled`);
+-- it has one where it names what there is (`word-of-step`); and the first boxes and the steps settle an accepted tape (`tape-settled`).
 use Prim.Native.Nat.{ℕ, zero, suc, _^_, _<_}
 use mathlib.Core.Bool.{Bool, true, false}
 use mathlib.Core.List.{List, [], _∷_, map}
@@ -77,7 +77,7 @@ step-fields : (x : ℕ) (step : Step) → isStep firstEdition x ≡ true → ste
 unfolding kindFields ofKind decodedFields fieldsOf fieldsIn
 step-fields x step h e =
     let some : width firstEdition (kindOf x) ≢ 0 = λ e. omega (arith, wide-none firstEdition x e, ltb-true 0 (wide firstEdition x) h) in
-    kind-fields (kindOf x) (drop 3 (bits 64 x)) some (word-may-hold firstEdition x (kindOf x) 1 h refl)
+    kind-fields (kindOf x) (drop 3 (bits 64 x)) some (word-may-hold firstEdition x 1 h)
     ∙ ap decodedFields (step-is x (fieldsIn firstEdition x) (ofFields (fieldsIn firstEdition x)) h refl refl ∙ e)
 
 decoded-is-step : (x : ℕ) (step : Step) → stepOf x ≡ D.Step step → isStep firstEdition x ≡ true

@@ -1,4 +1,4 @@
--- Which step a word of the reader's row is, and a word played (01, "The tape").
+-- Which step a word of the reader's row is, and a word played (01, "The tape"; 02, [1]).
 use Prim.Native.Nat.{ℕ}
 use mathlib.Core.List.{List, [], _∷_}
 use mathlib.Core.Path.{_≡_}
@@ -18,19 +18,19 @@ use Rattle.replay.specs.declared.Decoded.{Decoded}
 use Rattle.replay.specs.declared.Decoded.the-variants as D
 
 -- "there is one Ask, with 16 notes": "The old Ask stays and means the first eight of the sixteen"
-abbrev pub asked : Fields → Decoded
-asked f = D.Step (Ask (f .first) (f .second) (record { added = f .third; removed = f .fourth }))
+abbrev pub askOf : Fields → Decoded
+askOf f = D.Step (Ask (f .first) (f .second) (record { added = f .third; removed = f .fourth }))
 
 -- "each a 3-bit kind and its fields": the steps of these fields, from kind 0 on; kind 6 is "a long Ask"
 abbrev pub kinds : Fields → List Decoded
 kinds f =
-    asked f
+    askOf f
     ∷ D.Step (Advance (f .first))
     ∷ D.Step (Deliver (f .first))
     ∷ D.Step (Lose (f .first))
     ∷ D.Step (Repeat (f .first))
     ∷ D.Step (Stop (f .first))
-    ∷ asked f
+    ∷ askOf f
     ∷ []
 
 -- the step of a kind and its fields; none where no step has the kind

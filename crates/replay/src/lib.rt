@@ -6,7 +6,7 @@ use state::Run;
 use state::Stepped;
 use tape::Fields;
 ghost use mathlib.Core.Path.{_≡_};
-ghost use Rattle.replay.specs.Replay.{asked, ofFields, stepOf, PlayPromise};
+ghost use Rattle.replay.specs.Replay.{askOf, ofFields, stepOf, PlayPromise};
 ghost use Rattle.replay.specs.Working.{Small};
 
 // The step that a word is, or that it is none.
@@ -16,9 +16,9 @@ pub enum Decoded {
 }
 
 // An Ask, short or long: a step has sixteen notes, of which the short one brings the first eight.
-fn asked_in(f: Fields) -> Decoded
+fn ask_of(f: Fields) -> Decoded
     requires { ⌜ Small f ⌝ }
-    ensures { λ r. ⌜ r ≡ asked f ⌝ }
+    ensures { λ r. ⌜ r ≡ askOf f ⌝ }
 {
     let pair = Config {
         added: f.third as u16,
@@ -38,13 +38,13 @@ fn of_fields(f: Fields) -> Decoded
 {
     let kind = f.kind;
     match kind {
-        0 => asked_in(f),
+        0 => ask_of(f),
         1 => Decoded::Step(Step::Advance(f.first as u8)),
         2 => Decoded::Step(Step::Deliver(f.first as u8)),
         3 => Decoded::Step(Step::Lose(f.first as u8)),
         4 => Decoded::Step(Step::Repeat(f.first as u8)),
         5 => Decoded::Step(Step::Stop(f.first as u8)),
-        6 => asked_in(f),
+        6 => ask_of(f),
         _ => Decoded::NoStep,
     }
 }

@@ -1,5 +1,5 @@
 -- A step word by its fields: each holds a number that it may hold (`word-may-hold`), and with the kind they settle the word (`word-by-fields`).
-use mathlib.Core.Path.{_≡_, refl, sym, ap, ap₂, subst, _∙_}
+use mathlib.Core.Path.{_≡_, refl, sym, ap, ap₂, _∙_}
 use mathlib.Core.Logic.{_≢_}
 use Prim.Native.Nat.{ℕ, zero, suc, _<_}
 use mathlib.Core.List.{List, [], _∷_, _++_}
@@ -67,12 +67,11 @@ module _ (ed : Edition) where
       same l n true e = eqb-true _ _ e
       same l n false e = absurd (omega (arith, wide-low ed x n (eqb-false _ _ e)))
 
-  pub word-may-hold : (x k i : ℕ) → isStep ed x ≡ true → kindOf x ≡ k → MayHold (getD (fields ed k) i noField) (getD (fieldsOf ed x) (suc i) 0)
+  pub word-may-hold : (x i : ℕ) → isStep ed x ≡ true → MayHold (getD (fields ed (kindOf x)) i noField) (getD (fieldsOf ed x) (suc i) 0)
   unfolding fieldsOf
-  word-may-hold x k i h e =
+  word-may-hold x i h =
       let m = made x h in
-      subst (λ j. MayHold (getD (fields ed j) i noField) (getD (fieldsOf ed x) (suc i) 0)) e
-      (numbers-may-hold (fields ed (kindOf x)) (drop 3 (bits 64 x)) (sym (legal-fields ed x (kindOf x) refl (m .some)) ∙ m .fine) i)
+      numbers-may-hold (fields ed (kindOf x)) (drop 3 (bits 64 x)) (sym (legal-fields ed x (kindOf x) refl (m .some)) ∙ m .fine) i
 
   -- the kind and the fields of these bits
   front-is : (x : ℕ) → width ed (kindOf x) ≢ 0 → front x ≡ take 3 (bits 64 x) ++ take (span (fields ed (kindOf x))) (drop 3 (bits 64 x))

@@ -41,7 +41,7 @@ pub record StepWords (ed : Edition) : Type 0 where
   -- its kind and the numbers in its fields settle it
   pub settled-by-fields : (x y : ℕ) → isStep ed x ≡ true → isStep ed y ≡ true → fieldsOf ed x ≡ fieldsOf ed y → x ≡ y
   -- each field of its kind holds a number that it may hold
-  pub fields-may-hold : (x k i : ℕ) → isStep ed x ≡ true → kindOf x ≡ k → MayHold (getD (fields ed k) i noField) (getD (fieldsOf ed x) (suc i) 0)
+  pub fields-may-hold : (x i : ℕ) → isStep ed x ≡ true → MayHold (getD (fields ed (kindOf x)) i noField) (getD (fieldsOf ed x) (suc i) 0)
 
 -- ---- The round trip in any edition: a head with first boxes, and steps that fit
 

@@ -28,6 +28,7 @@ fn main() {
     writing::last_eight_notes();
     writing::devices();
     writing::bits_below();
+    writing::bits_below_a_long_ask();
     writing::longest();
     writing::buffers();
     writing::long_buffers();

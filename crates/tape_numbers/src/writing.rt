@@ -45,6 +45,12 @@ pub(crate) fn bits_below() {
     write(0x0007, 0x2400000000000000, 8);
 }
 
+pub(crate) fn bits_below_a_long_ask() {
+    say(b"14 write a long Ask with the first bit below its 54, and with the last of the 54\n");
+    write(0x0007, 0xc004000000000200, 10);
+    write(0x0007, 0xc004000000000400, 10);
+}
+
 pub(crate) fn longest() {
     say(b"11 write a tape over 4096 bytes, and one of 4096\n");
     write_long(4094, STOP, 4097);

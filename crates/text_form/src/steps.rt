@@ -98,7 +98,7 @@ fn no_field(field: Field) -> Parsed {
     }
 }
 
-// The short Ask where the first eight of the sixteen notes are all, else the long one.
+// The short Ask where none of the last eight of the sixteen notes is there, else the long one.
 fn ask_kind(notes: u64) -> u64 {
     if notes <= 0xff { 0 } else { 6 }
 }

@@ -7,8 +7,8 @@ use Rattle.replay.proofs.Words.{of-kind, of-no-kind}
 use Rattle.replay.proofs.of_fields.Statement.{statement}
 use Rattle.replay.proofs.of_fields.Tie as tie
 
-asked-in-requires : tie.Need-asked-in-requires
-asked-in-requires c κs = search needs
+ask-of-requires : tie.Need-ask-of-requires
+ask-of-requires c κs = search needs
 
 cast-t4 : tie.Need-cast-t4
 cast-t4 c = search needs
@@ -25,11 +25,11 @@ cast-t10 c = search needs
 cast-t12 : tie.Need-cast-t12
 cast-t12 c = search needs
 
-asked-in-requires-2 : tie.Need-asked-in-requires-2
-asked-in-requires-2 c κs = search needs
+ask-of-requires-2 : tie.Need-ask-of-requires-2
+ask-of-requires-2 c κs = search needs
 
 returns : tie.Need-returns
-returns c = c .asked-in .ensures ∙ of-kind _ _ (c .before .match .keys1)
+returns c = c .ask-of .ensures ∙ of-kind _ _ (c .before .match .keys1)
 
 returns-2 : tie.Need-returns-2
 returns-2 c = of-kind _ _ (c .before .match .keys2)
@@ -47,7 +47,7 @@ returns-6 : tie.Need-returns-6
 returns-6 c = of-kind _ _ (c .before .match .keys6)
 
 returns-7 : tie.Need-returns-7
-returns-7 c = c .asked-in2 .ensures ∙ of-kind _ _ (c .before .match .keys7)
+returns-7 c = c .ask-of2 .ensures ∙ of-kind _ _ (c .before .match .keys7)
 
 returns-8 : tie.Need-returns-8
 returns-8 c =
@@ -60,13 +60,13 @@ pub of-fields-spec : {M : Type 1} → statement M
 of-fields-spec =
     tie.close
     (tie.spec
-    asked-in-requires
+    ask-of-requires
     cast-t4
     cast-t6
     cast-t8
     cast-t10
     cast-t12
-    asked-in-requires-2
+    ask-of-requires-2
     returns
     returns-2
     returns-3

@@ -1,4 +1,4 @@
--- `sum_of` ends: the measure counts down from more slots than there are, also for eight parts of the notes.
+-- `sum_of` ends: the measure counts down from more slots than there are in all parts of the notes.
 use Prim.Native.Nat.{_-_}
 use native.Mathlib.Omega.{arith}
 use Rattle.given.proofs.sums.sum_of.Statement.{statement}
