@@ -39,7 +39,7 @@ enum parlour_tape_number {
 
 /* Whether a recorded tape can be read: 0, or the number of the one reason why not, one of those
    above and no other. Where several reasons hold, it is the first in this order: 11; 13 for under
-   three bytes; 12; 13 or 14 at the first step that has it; 15.
+   three bytes; 12; 13 or 14 at the first step that has it, 13 where it has too few bits; 15.
 
    `tape` points to `length` bytes, which no thread changes during the call; no other byte is read.
    A length of 0 gives 13; `tape` must then too be a valid pointer, to anything, and not NULL. */
