@@ -1,7 +1,7 @@
 -- Laws of notes, all of them: what a change of their representation must prove anew. Notes are two sets, so they are joined, contained and compared
 -- by the laws of sets over the width (`notes-joined`, `notes-decided`), and a note of joined notes is in one side; a tablet's own notes stand at
 -- their places among all, and are those that it owns.
-use Prim.Native.Nat.{ℕ, _+_, _-_, _*_, _/_, _%_, _^_, _≤_, _<_}
+use Prim.Native.Nat.{ℕ, _+_, _*_, _/_, _%_, _^_, _≤_, _<_}
 use mathlib.Core.Bool.{Bool, true, false, true≢false}
 use mathlib.Core.Path.{_≡_, refl, sym, ap, ap₂, _∙_}
 use mathlib.Core.Logic.{_⊎_, ⊎-elim}

@@ -9,7 +9,7 @@ use lib.ListN.{length, take, drop, length-append, length-take, length-drop, take
 use lib.Seq.{take-append-le, take-all, take-take, take-add, length-take-le, drop-drop}
 use lib.Dec.{leb, ltb, eqb}
 use borrow.Author.Tests.{lt-ltb, le-ltb, le-leb, lt-leb, eq-eqb, ne-eqb, leb-true, leb-false, eqb-false, eqb-true, ltb-true, ltb-false}
-use Rattle.tape.specs.Bits.{num, bits, fieldAt, word, Ahead}
+use Rattle.tape.specs.Bits.{num, bits, fieldAt, Ahead}
 use Rattle.tape.specs.Reading.{endAt, begins}
 use Rattle.tape.specs.declared.reading.Reading.the-variants.{Refused, End}
 use Rattle.tape.proofs.BitLaws.{length-bits, num-inj, drop-take}

@@ -22,7 +22,7 @@ use Rattle.tape.proofs.LayoutLaws.{width-least}
 use Rattle.tape.proofs.MarkLaws.{begins-yes, end-good}
 use Rattle.tape.proofs.ReadingLaws.{read-mark, more-is}
 use Rattle.tape.proofs.StepLaws.{StepIn, EndIn, step-in, end-in, read-step, word-of, step-word, wide-word, length-step}
-use Rattle.tape.proofs.WritingLaws.{all-cons, pad-lt, size-bits, size-least, length-tape, tape-bits, write-good}
+use Rattle.tape.proofs.WritingLaws.{all-cons, pad-lt, size-least, length-tape, tape-bits, write-good}
 use Rattle.tape.proofs.TapeLaws.{GoodHead, head-good, head-zero, head-there, head-given, read-good}
 
 module _ (ed : Edition) where

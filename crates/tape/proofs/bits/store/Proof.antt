@@ -1,7 +1,7 @@
 -- `bits::store` meets its contract.
 use borrow.Author.Needs.{needs}
 use mathlib.Core.Path.{ap₂, _∙_}
-use Prim.Native.Nat.{_+_, _-_, _/_, _^_}
+use Prim.Native.Nat.{_+_, _/_, _^_}
 use lib.ListN.{set}
 use lib.Bits.{and-mask, mask-lt}
 use Rattle.tape.proofs.bits.store.Statement.{statement}

@@ -2,7 +2,7 @@
 use borrow.Author.Needs.{needs}
 use native.Mathlib.Omega.{arith}
 use mathlib.Core.Path.{sym, ap₂, _∙_}
-use Prim.Native.Nat.{_+_, _-_}
+use Prim.Native.Nat.{_+_}
 use denote.Ref.{now}
 use lib.ListN.{length-drop}
 use Rattle.tape.specs.Bits.{bits, bitsOf, overlaid}
