@@ -81,14 +81,18 @@ note-digit set note l = go (eqb (note / 64) 0) refl
         ∙ ap (λ (n : ℕ). n % 2) (shr-shr set 64 (note % 64))
         ∙ ap (λ (n : ℕ). digit n set) high
 
+-- "a book holds 128"
+note-past : (notes : Notes) (note : ℕ) → 128 ≤ note → digit (note % 64) (notesPart notes (note / 64)) ≡ 0
+note-past notes note h =
+    let past : 1 < note / 64 = omega arith in
+    ap (digit (note % 64)) (sym (part-past notes (note / 64) past)) ∙ digit-high 0 (note % 64) 0 (omega arith) (omega arith)
+
 in-set : (set note : ℕ) → hasNote note (notesOf set) ≡ true → digit note set ≡ 1
 in-set set note h = go (ltb note 128) refl (has-digit (note % 64) (notesPart (notesOf set) (note / 64)) h)
   where
     go : (t : Bool) → ltb note 128 ≡ t → digit (note % 64) (notesPart (notesOf set) (note / 64)) ≡ 1 → digit note set ≡ 1
     go true e i = sym (note-digit set note (ltb-true note 128 e)) ∙ i
-    go false e i =
-        let past : 1 < note / 64 = omega (arith, ltb-false note 128 e) in
-        absurd (none-in-empty (note % 64) (ap (digit (note % 64)) (part-past (notesOf set) (note / 64) past) ∙ i))
+    go false e i = absurd (lt-irrefl 0 (omega (arith, i, note-past (notesOf set) note (ltb-false note 128 e))))
 
 pub set-notes : (set note : ℕ) → set < 2 ^ 128 → hasNote note (notesOf set) ≡ has note set
 set-notes set note l = go (ltb note 128) refl
@@ -96,9 +100,8 @@ set-notes set note l = go (ltb note 128) refl
     go : (t : Bool) → ltb note 128 ≡ t → hasNote note (notesOf set) ≡ has note set
     go true e = ap (λ (n : ℕ). eqb n 1) (note-digit set note (ltb-true note 128 e))
     go false e =
-        let past : 1 < note / 64 = omega (arith, ltb-false note 128 e) in
-        ap (has (note % 64)) (sym (part-past (notesOf set) (note / 64) past))
-        ∙ ap (λ (n : ℕ). eqb n 1) (digit-high 0 (note % 64) 0 (omega arith) (omega arith) ∙ sym (digit-high 128 note set l (ltb-false note 128 e)))
+        let past = ltb-false note 128 e in
+        ap (λ (n : ℕ). eqb n 1) (note-past (notesOf set) note past ∙ sym (digit-high 128 note set l past))
 
 pub note-joined : (note : ℕ) (a b : Notes) → hasNote note (joinNotes a b) ≡ pick (hasNote note a) true (hasNote note b)
 note-joined note a b = go (hasNote note a) refl (hasNote note b) refl (hasNote note (joinNotes a b)) refl

@@ -37,4 +37,15 @@ unfolding majorityOf
 only-members c answered = members-only one (membersOf c) answered
 
 pub statements : Statements
-statements = record { weights = set-notes; joined = note-joined; contained = notes-contained; each-contained = notes-inside; own-notes = own-at; owned = own-note; never-returns = never-returns; no-members = no-members; only-members = only-members }
+statements =
+    record {
+      weights = set-notes;
+      joined = note-joined;
+      contained = notes-contained;
+      each-contained = notes-inside;
+      own-notes = own-at;
+      owned = own-note;
+      never-returns = never-returns;
+      no-members = no-members;
+      only-members = only-members;
+    }
