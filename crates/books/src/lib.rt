@@ -1,4 +1,5 @@
 // Notes, configurations and books; the listed changes and the configurations that a round queries.
+#![tactic(auto)]
 ghost use Rattle.std.specs.Prelude.{◌≡◌, ◌⊎◌, ◌<◌, ◌≤◌};
 ghost use Rattle.books.specs.Books.{notes_part, own_notes, no_book, notes_inside, config_inside, book_inside, join_notes, join_configs, join_books, same_notes, same_config};
 ghost use Rattle.books.specs.Queried.{place_of, outside, joined_with, every_majority, asked_boxes, stays};

@@ -1,5 +1,6 @@
 // For tests: plays the tape on standard input from a run whose tablets are idle in the round that the first argument gives.
 // No tape brings a fresh run to the last rounds. How that ended goes to the file that the second argument names, where there is one.
+#![tactic(auto)]
 use lines::Form;
 use streams::{Ended, Number, Word};
 

@@ -1,4 +1,5 @@
 // The lines that the programs print of a tape, played or listed.
+#![tactic(auto)]
 mod answers;
 mod listed;
 mod played;

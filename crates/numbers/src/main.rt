@@ -10,6 +10,7 @@
 // so that 1, 2 and 9 are shown too, which no tape from a fresh start reaches; and the last part asks what is printed:
 //
 //     ask TABLET ADDED REMOVED · advance TABLET · deliver SLOT · lose SLOT · repeat SLOT · stop DEVICE · unplug BOX · start BOXES
+#![tactic(auto)]
 use given::{Given, PARTS, Part};
 use libc::STDIN_FILENO;
 

@@ -1,5 +1,6 @@
 // Plays the tape on standard input and prints what each step answers (01, "The tape").
 // How that ended goes to the file that the first argument names, where there is one.
+#![tactic(auto)]
 use lines::Form;
 
 fn main() {

@@ -1,4 +1,5 @@
 // Reads the tape on standard input a thousand times and prints how many steps that gave: what tools/bench measures of the reader.
+#![tactic(auto)]
 use libc::{STDIN_FILENO, STDOUT_FILENO};
 use tape::Read;
 

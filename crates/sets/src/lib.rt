@@ -1,4 +1,6 @@
 // Sets of boxes as the bits of a number, and the majority of a configuration.
+#![tactic(auto)]
+
 ghost use Rattle.std.specs.Prelude.{◌≡◌};
 ghost use Rattle.sets.specs.Sets.{members};
 ghost use Rattle.sets.specs.Bounded.{how_many};

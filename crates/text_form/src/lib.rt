@@ -1,5 +1,6 @@
 // The text form of tapes, read from standard input: its first boxes, and the words of its steps in a lent row.
 // A bad line is said on standard error, with its number and what is wrong with it.
+#![tactic(auto)]
 mod encoded;
 mod steps;
 mod text;

@@ -1,5 +1,6 @@
 // Tapes as text: `list` shows the tape on standard input as text, `write` writes the tape of the text on standard input.
 // How that ended goes to the file that the second argument names, where there is one.
+#![tactic(auto)]
 use lines::Form;
 use streams::{Ended, Out, Word};
 use tape::Written;
