@@ -1,11 +1,12 @@
 // Notes, configurations and books; the listed changes and the configurations that a round queries.
 #![tactic(auto)]
+
 ghost use Rattle.std.specs.Prelude.{◌≡◌, ◌⊎◌, ◌<◌, ◌≤◌};
 ghost use Rattle.books.specs.Books.{notes_part, own_notes, no_book, notes_inside, config_inside, book_inside, join_notes, join_configs, join_books, same_notes, same_config};
 ghost use Rattle.books.specs.Queried.{place_of, outside, joined_with, every_majority, asked_boxes, stays};
 
 // Notes as a set of 128: note n has weight 2^n in `low`, from 64 on 2^(n - 64) in `high`. Only this crate takes them apart.
-#[derive(Drop)]
+#[derive(Clone, Copy)]
 pub struct Notes {
     low: u64,
     high: u64,
@@ -14,20 +15,20 @@ pub struct Notes {
 // How many parts of 64 notes there are.
 pub const NOTE_PARTS: usize = 2;
 
-#[derive(Drop)]
+#[derive(Clone, Copy)]
 pub struct Config {
     pub added: u16,
     pub removed: u16,
 }
 
-#[derive(Drop)]
+#[derive(Clone, Copy)]
 pub struct Book {
     pub notes: Notes,
     pub config: Config,
 }
 
 // The list of changes: the first `count` of six places.
-#[derive(Drop)]
+#[derive(Clone, Copy)]
 pub struct Listed {
     pub changes: [Config; 6],
     pub count: usize,

@@ -6,21 +6,21 @@ ghost use Rattle.devices.specs.Effects.{number_of, kept_after, only, box_of, add
 
 use books::{Book, Config, Listed, Notes};
 
-#[derive(Drop)]
+#[derive(Clone, Copy)]
 pub struct Contents {
     pub v: Book,
     pub candidates: Notes,
     pub t: u8,
 }
 
-#[derive(Drop)]
+#[derive(Clone, Copy)]
 pub enum Floor {
     Unset,
     Set(Book),
 }
 
 // What an asking tablet saved when its round began, the boxes that answered, and the floor.
-#[derive(Drop)]
+#[derive(Clone, Copy)]
 pub struct Asking {
     pub config: Config,
     pub t: u8,
@@ -29,19 +29,19 @@ pub struct Asking {
     pub floor: Floor,
 }
 
-#[derive(Drop)]
+#[derive(Clone, Copy)]
 pub enum Phase {
     Idle,
     Asks(Asking),
 }
 
-#[derive(Drop)]
+#[derive(Clone, Copy)]
 pub struct Tablet {
     pub round: u16,
     pub phase: Phase,
 }
 
-#[derive(Drop)]
+#[derive(Clone, Copy)]
 pub struct Letter {
     pub from: u8,
     pub to: u8,
@@ -49,7 +49,7 @@ pub struct Letter {
     pub contents: Contents,
 }
 
-#[derive(Drop)]
+#[derive(Clone, Copy)]
 pub struct Notice {
     pub from: u8,
     pub to: u8,
@@ -57,7 +57,7 @@ pub struct Notice {
 }
 
 // What a slot holds.
-#[derive(Drop)]
+#[derive(Clone, Copy)]
 pub enum Message {
     Empty,
     Request(Letter),
@@ -65,7 +65,7 @@ pub enum Message {
     Commit(Notice),
 }
 
-#[derive(Drop)]
+#[derive(Clone, Copy)]
 pub enum Step {
     // Own notes as a set: the lowest of the tablet's sixteen has weight 1.
     Ask {
@@ -81,7 +81,7 @@ pub enum Step {
 }
 
 // What a step answers: done, a new round, a book handed back, or a refusal with its number.
-#[derive(Drop)]
+#[derive(Clone, Copy)]
 pub enum Outcome {
     Done,
     Round(u16),
@@ -91,14 +91,14 @@ pub enum Outcome {
 }
 
 // A message and the set of devices that it goes to, device d having weight 2^d.
-#[derive(Drop)]
+#[derive(Clone, Copy)]
 pub struct Sending {
     pub message: Message,
     pub to: u32,
 }
 
 // What a rule sees: the acting device's contents and tablet, the listed changes, how many slots are free, and whether it is stopped.
-#[derive(Drop)]
+#[derive(Clone, Copy)]
 pub struct Here {
     pub contents: Contents,
     pub tablet: Tablet,
@@ -108,7 +108,7 @@ pub struct Here {
 }
 
 // What a step does: the parts anew, whether the named slot is freed and the acting device stopped, and what is sent.
-#[derive(Drop)]
+#[derive(Clone, Copy)]
 pub struct Effect {
     pub outcome: Outcome,
     pub contents: Contents,

@@ -2,7 +2,7 @@
 
 // What stands in a text from a place on: its letters as one number, 8 bits to a letter; what its digits are as a decimal and as a
 // hexadecimal number, and which of the two it is; and the place behind it.
-#[derive(Drop)]
+#[derive(Clone, Copy)]
 struct Token {
     letters: u64,
     decimal: u64,
@@ -11,14 +11,14 @@ struct Token {
     next: usize,
 }
 
-#[derive(Drop)]
+#[derive(Clone, Copy)]
 struct Number {
     value: u64,
     next: usize,
 }
 
 // A part of an example: its name as letters, the numbers behind it, 0 for those not given, and the place behind the part.
-#[derive(Drop)]
+#[derive(Clone, Copy)]
 pub struct Part {
     pub name: u64,
     pub first: u64,

@@ -9,7 +9,7 @@ use streams::{Ended, Out, no_text, read_all, written};
 use tape::Read;
 
 // The forms in which a tape is shown.
-#[derive(Drop)]
+#[derive(Clone, Copy)]
 pub enum Form {
     Played,
     // The same from a run whose tablets start idle in a round: no tape reaches the last rounds from a fresh start.

@@ -17,7 +17,7 @@ use libc::STDIN_FILENO;
 mod shown;
 
 // What an example gives so far, and the place in the text.
-#[derive(Drop)]
+#[derive(Clone, Copy)]
 struct Turn {
     given: Given,
     at: usize,

@@ -85,7 +85,7 @@ fn show_unplug(given: Given, number: u8) {
 }
 
 // The step that a part names, if it names one.
-#[derive(Drop)]
+#[derive(Clone, Copy)]
 enum Named {
     Step(Step),
     Nothing,

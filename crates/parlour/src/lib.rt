@@ -15,7 +15,7 @@ use rules::Named;
 use state::{Run, Slot, Stepped};
 
 // Whether a box may be unplugged, or the number of a refusal.
-#[derive(Drop)]
+#[derive(Clone, Copy)]
 pub enum Unplug {
     May,
     MayNot,

@@ -10,7 +10,7 @@ use state::{Run, Stepped};
 use tape::Fields;
 
 // The step that a word is, or that it is none.
-#[derive(Drop)]
+#[derive(Clone, Copy)]
 pub enum Decoded {
     Step(Step),
     NoStep,

@@ -5,14 +5,14 @@ ghost use Rattle.rules.specs.Table.{about_step, in_range};
 use devices::Step;
 
 // The number that a step names: a tablet's, a slot's or a device's.
-#[derive(Drop)]
+#[derive(Clone, Copy)]
 pub enum Named {
     Tablet(u8),
     Slot(u8),
     Device(u8),
 }
 
-#[derive(Drop)]
+#[derive(Clone, Copy)]
 pub struct About {
     pub names: Named,
     pub counts: bool,

@@ -10,13 +10,13 @@ ghost use Rattle.state.specs.State.{fresh, StartPromise, names_listed, all_diffe
 use books::{Book, Config, Listed};
 use devices::{Contents, Letter, Message, Outcome, Phase, Tablet};
 
-#[derive(Drop)]
+#[derive(Clone, Copy)]
 pub struct Slot {
     pub message: Message,
 }
 
 // The run keeps the first boxes too: they are never changed.
-#[derive(Drop)]
+#[derive(Clone, Copy)]
 pub struct Run {
     pub devices: [Contents; 24],
     pub tablets: [Tablet; 8],
@@ -28,7 +28,7 @@ pub struct Run {
 }
 
 // A run, and what the step that led to it answers.
-#[derive(Drop)]
+#[derive(Clone, Copy)]
 pub struct Stepped {
     pub outcome: Outcome,
     pub run: Run,

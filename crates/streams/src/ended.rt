@@ -2,7 +2,7 @@
 use crate::out::{Out, write_out};
 use libc::STDERR_FILENO;
 
-#[derive(Drop)]
+#[derive(Clone, Copy)]
 pub enum Ended {
     Well,
     // The tape or the text is refused.

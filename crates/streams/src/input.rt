@@ -4,7 +4,7 @@ ghost use Rattle.io.specs.Counts.{IsPrefixLen};
 use libc::STDIN_FILENO;
 
 // How many bytes were read to the front of a buffer, and whether a read failed.
-#[derive(Drop)]
+#[derive(Clone, Copy)]
 pub struct Input {
     pub length: usize,
     pub failed: bool,

@@ -2,7 +2,7 @@
 use libc::STDOUT_FILENO;
 
 // How many bytes of the buffer hold text, and whether a write failed: then nothing more is written.
-#[derive(Drop)]
+#[derive(Clone, Copy)]
 pub struct Out {
     pub end: usize,
     pub failed: bool,

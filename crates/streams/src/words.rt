@@ -2,14 +2,14 @@
 ghost use Rattle.std.specs.Prelude.{◌≤◌};
 
 // The number that some digits are, up to 65,536 for all that is larger, which is over every bound; or that they are none.
-#[derive(Drop)]
+#[derive(Clone, Copy)]
 pub enum Number {
     Is(u64),
     None,
 }
 
 // A word: how many bytes it has, up to 9; the last eight of them, so that words of up to eight can be told apart; and its numbers.
-#[derive(Drop)]
+#[derive(Clone, Copy)]
 pub struct Word {
     pub length: usize,
     pub bytes: u64,

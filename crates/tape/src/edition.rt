@@ -4,13 +4,13 @@ ghost use Rattle.tape.specs.Edition.{edition_of, mark_in, head_in};
 ghost use Rattle.tape.specs.Reading.{start};
 
 // A case for each edition: what is below the public calls takes one, and never meets a number that names none.
-#[derive(Drop)]
+#[derive(Clone, Copy)]
 pub(crate) enum Edition {
     First,
 }
 
 // The end mark: the kind that it begins with and the bits behind that, all its bits as one number, and how many they are.
-#[derive(Drop)]
+#[derive(Clone, Copy)]
 pub(crate) struct Mark {
     pub(crate) kind: u64,
     pub(crate) rest: u64,
@@ -19,7 +19,7 @@ pub(crate) struct Mark {
 }
 
 // The head: the bit at which the set of first boxes begins, and how many bits stand before the steps.
-#[derive(Drop)]
+#[derive(Clone, Copy)]
 pub(crate) struct Head {
     pub(crate) boxes: usize,
     pub(crate) width: usize,

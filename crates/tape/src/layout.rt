@@ -9,14 +9,14 @@ use crate::bits::{field, top};
 use crate::edition::Edition;
 
 // The one field of a step that may not hold whatever fits, if there is one: its first bit, how many bits it has, the least and the most that it may hold.
-#[derive(Drop)]
+#[derive(Clone, Copy)]
 pub(crate) enum Bound {
     None,
     Within(usize, usize, u64, u64),
 }
 
 // How many bits a step takes with its kind, 0 for no step; the bits of each of its fields, in their order; and its bound.
-#[derive(Drop)]
+#[derive(Clone, Copy)]
 pub(crate) struct Layout {
     pub(crate) width: usize,
     pub(crate) first: usize,

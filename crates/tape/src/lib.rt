@@ -16,28 +16,28 @@ mod writing;
 use edition::Edition;
 
 // What a tape holds: its first boxes, and how many words of the row its steps take.
-#[derive(Drop)]
+#[derive(Clone, Copy)]
 pub struct Recorded {
     pub first: u16,
     pub steps: usize,
 }
 
 // A tape that was read, or the number of the refusal.
-#[derive(Drop)]
+#[derive(Clone, Copy)]
 pub enum Read {
     Steps(Recorded),
     Refused(u8),
 }
 
 // A tape that was written: how many bytes of the buffer it takes; or the number of the refusal.
-#[derive(Drop)]
+#[derive(Clone, Copy)]
 pub enum Written {
     Bytes(usize),
     Refused(u8),
 }
 
 // The kind of a step word and the numbers in its fields, in the order of the tape; 0 for a field that the kind has not.
-#[derive(Drop)]
+#[derive(Clone, Copy)]
 pub struct Fields {
     pub kind: u64,
     pub first: u64,

@@ -10,7 +10,7 @@ use crate::edition::{Edition, head_of, mark_of, start_of};
 use crate::layout::{fields_allowed, layout_of};
 
 // Each reading ends as a step with the next bit position, or as a refusal, or as the end of the tape.
-#[derive(Drop)]
+#[derive(Clone, Copy)]
 pub(crate) enum Reading {
     Step(u64, usize),
     Refused(u8),

@@ -10,7 +10,7 @@ use crate::edition::{Edition, mark_of, start_of};
 use crate::layout::step_width;
 
 // The bits that some words take as steps, or that one of them is no step.
-#[derive(Drop)]
+#[derive(Clone, Copy)]
 pub(crate) enum Measured {
     Bits(usize),
     NoStep,

@@ -3,7 +3,7 @@ ghost use Rattle.text_form.specs.Encoding.{ReadAs};
 
 use tape::Fields;
 
-#[derive(Drop)]
+#[derive(Clone, Copy)]
 pub(crate) enum Encoded {
     Word(u64),
     NoWord,

@@ -10,7 +10,7 @@ use streams::Ended;
 use text::{Fault, Text};
 
 // A text that was read: its first boxes, how many words of the row its steps take, and how reading it ended.
-#[derive(Drop)]
+#[derive(Clone, Copy)]
 pub struct Taken {
     pub first: u16,
     pub steps: usize,

@@ -7,14 +7,14 @@ use streams::{Number, Word, is_word};
 use tape::Fields;
 
 // The words of a line: the first `count` of eight places, one more than any line has.
-#[derive(Drop)]
+#[derive(Clone, Copy)]
 pub(crate) struct Words {
     pub(crate) words: [Word; 8],
     pub(crate) count: usize,
 }
 
 // What a line says.
-#[derive(Drop)]
+#[derive(Clone, Copy)]
 pub(crate) enum Line {
     Nothing,
     First(u64),
@@ -24,14 +24,14 @@ pub(crate) enum Line {
 }
 
 // A number of a line, or what is wrong with it.
-#[derive(Drop)]
+#[derive(Clone, Copy)]
 enum Field {
     Is(u64),
     Wrong(Wrong),
 }
 
 // The fields of a step, or what is wrong with it.
-#[derive(Drop)]
+#[derive(Clone, Copy)]
 enum Parsed {
     Is(Fields),
     Wrong(Wrong),

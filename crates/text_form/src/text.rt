@@ -3,14 +3,14 @@ use crate::steps::{Line, Words, line_of};
 use crate::wrong::Wrong;
 use streams::Word;
 
-#[derive(Drop)]
+#[derive(Clone, Copy)]
 pub(crate) enum Fault {
     None,
     Wrong(Wrong),
 }
 
 // A text as far as it was taken: the line, whether the rest of it is a comment or an answer, its words, and what was found.
-#[derive(Drop)]
+#[derive(Clone, Copy)]
 pub(crate) struct Text {
     pub(crate) line: u64,
     passing: bool,

@@ -2,7 +2,7 @@
 use libc::STDERR_FILENO;
 use streams::say;
 
-#[derive(Drop)]
+#[derive(Clone, Copy)]
 pub(crate) enum Wrong {
     NoStep,
     StepMissing,
