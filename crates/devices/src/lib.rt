@@ -1,5 +1,6 @@
 // What one device keeps, the messages, merging, and what a step may do: an effect, which a rule gives and the run applies.
 #![tactic(auto)]
+
 ghost use Rattle.std.specs.Prelude.{◌≡◌};
 ghost use Rattle.devices.specs.Contents.{merged};
 ghost use Rattle.devices.specs.Effects.{number_of, kept_after, only, box_of, addressee, letter_to, addressed, is_empty, no_sending, refuse};

@@ -1,6 +1,7 @@
 // The tape of recorded steps (01, "The tape"): its check, its reader and its writer, and the fields of a step word.
 // Each call takes anything at all, and gives its result or one numbered refusal.
 #![tactic(auto)]
+
 ghost use Rattle.std.specs.Prelude.{◌≡◌};
 ghost use Rattle.tape.specs.Edition.{first_edition};
 ghost use Rattle.tape.specs.Layout.{fields_in};

@@ -1,0 +1,7 @@
+use Rattle.tape.proofs.ByteLaws.{ahead-is}
+use Rattle.tape.proofs.bits.ahead.Goals as goal
+
+pub returns : goal.returns
+returns c =
+    let a = c.args in
+    ahead-is a.s.now a.p c.window_at.result c.window_at.ensures

@@ -1,0 +1,40 @@
+use borrow.Author.Rules.{rules}
+use native.Mathlib.Omega.{arith}
+use mathlib.Core.Path.{◌≡◌, refl, sym, ap, ap₂, ◌∙◌}
+use Prim.Native.Nat.{ℕ, ◌+◌, ◌-◌, ◌*◌, ◌≤◌}
+use mathlib.Core.List.{List}
+use lib.ListN.{length, take, drop, length-drop}
+use lib.Seq.{length-take-le, take-add}
+use Rattle.tape.specs.Bits.{num, bits, bits_of, overlaid}
+use Rattle.tape.proofs.BitLaws.{length-bits, bits-part}
+use Rattle.tape.proofs.ByteLaws.{length-bits_of}
+use Rattle.tape.proofs.WordLaws.{field-inside, field_lt}
+use Rattle.tape.proofs.LayLaws.{overlaid-nil, overlaid-overlaid}
+use Rattle.tape.proofs.bits.put_word.Goals as goal
+
+-- `bits::put_word` meets its contract.
+further : (s : List ℕ) (p w x : ℕ) (b : List ℕ) (i k c : ℕ) → w ≤ 64 → i + k ≤ w → p + w ≤ 8 * length s → bits_of b ≡ overlaid (bits_of s) p (take i (bits 64 x)) → c ≡ num (take k (drop i (bits 64 x)))
+    → overlaid (bits_of b) (p + i) (bits k c) ≡ overlaid (bits_of s) p (take (i + k) (bits 64 x))
+further s p w x b i k c hw h hp e f =
+    ap₂ (λ l g. overlaid l (p + i) g) e (ap (bits k) f ∙ bits-part k (take k (drop i (bits 64 x))) (length-take-le k (drop i (bits 64 x)) (simp (length-drop, length-bits) (omega arith))))
+    ∙ ap (λ n. overlaid (overlaid (bits_of s) p (take i (bits 64 x))) (p + n) (take k (drop i (bits 64 x)))) (sym (length-take-le i (bits 64 x) (rw length-bits (omega arith))))
+    ∙ overlaid-overlaid (bits_of s) p (take i (bits 64 x)) (take k (drop i (bits 64 x))) (rw length-bits_of (omega arith))
+    ∙ ap (overlaid (bits_of s) p) (sym (take-add i k (bits 64 x)))
+
+pub loop-i-init : goal.loop-i-init
+loop-i-init c = (search rules, refl, sym (overlaid-nil (bits_of c.args.buf.now) c.args.p))
+
+pub put-requires : goal.put-requires
+put-requires c =
+    let k = c.chunk-k in
+    (omega arith, omega arith, rw c.field.ensures (field_lt c.args.x c.loop-i.i k.result (omega arith)), omega arith, omega arith)
+
+pub loop-i-preserved : goal.loop-i-preserved
+loop-i-preserved c =
+    let l = c in
+    let a = l.args in
+    let k = c.chunk-k in (
+      omega arith,
+      c.put.auto.0 ∙ l.loop-i.invariant.1,
+      c.put.ensures ∙ further a.buf.now a.p a.w a.x l.loop-i.buf l.loop-i.i k.result c.field.result l.requires.0 (omega arith) l.requires.1 l.loop-i.invariant.2 (c.field.ensures ∙ field-inside a.x l.loop-i.i k.result (omega arith)),
+    )

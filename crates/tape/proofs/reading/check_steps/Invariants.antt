@@ -1,0 +1,16 @@
+use mathlib.Core.Path.{◌≡◌}
+use Prim.Native.Nat.{suc, ◌-◌, ◌*◌, ◌≤◌}
+use lib.ListN.{length}
+use Rattle.tape.specs.Bits.{bits_of}
+use Rattle.tape.specs.Edition.{edition_of}
+use Rattle.tape.specs.Reading.{read_from, read_steps}
+use Rattle.tape.specs.Promises.{number_with}
+use Rattle.tape.proofs.reading.check_steps.Given as goal
+
+-- `reading::check_steps` meets its contract.
+abbrev pub invariant-loop-next : goal.invariant-loop-next
+invariant-loop-next l =
+    (l.p ≤ 8 * length l.s) × (l.n ≤ l.p) × (number_with l.room 0 (read_steps (edition_of l.edition) (bits_of l.s)) ≡ number_with l.room l.n (read_from (edition_of l.edition) (suc (length (bits_of l.s)) - l.n) (bits_of l.s) l.p))
+
+abbrev pub decreases-loop-next : goal.decreases-loop-next
+decreases-loop-next l = 8 * length l.s - l.p

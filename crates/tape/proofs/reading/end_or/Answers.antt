@@ -1,0 +1,58 @@
+use native.Mathlib.Omega.{arith}
+use mathlib.Core.Path.{◌≡◌, sym, ap, ◌∙◌}
+use Prim.Native.Nat.{◌-◌}
+use lib.ListN.{length, take, drop}
+use Rattle.tape.specs.Bits.{num, bits, field_at}
+use Rattle.tape.specs.Edition.{edition_of}
+use Rattle.tape.specs.Reading.{end_at}
+use Rattle.tape.specs.declared.edition.Mark.{Mark}
+use Rattle.tape.proofs.MarkLaws.{mark-short, mark-other, mark-rest, mark-is}
+use Rattle.tape.proofs.reading.end_or.Goals as goal
+
+-- `reading::end_or` meets its contract.
+long : (c : tie.After-mark-of) → c.mark_of-mark.result.width ≡ length (edition_of c.args.edition).mark
+long c = ap (λ (m : Mark). m.width) c.mark_of-mark.ensures
+
+-- the kind and the bits behind it, as the code has them, beside those of the mark
+kinds : (c : tie.After-mark-of) → c.mark_of-mark.result.kind ≡ num (take 3 (edition_of c.args.edition).mark)
+kinds c = ap (λ (m : Mark). m.kind) c.mark_of-mark.ensures
+
+behind : (c : tie.After-field) → c.field.result ≡ field_at c.args.x 3 (length (edition_of c.args.edition).mark - 3)
+behind c =
+    let m = c in
+    c.field.ensures ∙ ap (λ n. field_at m.args.x 3 (n - 3)) (long m)
+
+rests : (c : tie.After-mark-of) → c.mark_of-mark.result.rest ≡ num (drop 3 (edition_of c.args.edition).mark)
+rests c = ap (λ (m : Mark). m.rest) c.mark_of-mark.ensures
+
+pub returns-then-kind-mark : goal.returns-then-kind-mark
+returns-then-kind-mark c =
+    let m = c in
+    let a = m.args in
+    let ed = edition_of a.edition in
+    sym (simp (mark-other ed.mark a.x a.left ed.mark_most ed.mark_least (λ e. c.if-kind-mark.true (m.requires ∙ e ∙ sym (kinds m)))))
+
+pub returns-then-left-width : goal.returns-then-left-width
+returns-then-left-width c =
+    let m = c in
+    let a = m.args in
+    let ed = edition_of a.edition in
+    sym (simp (mark-short ed.mark a.x a.left ed.mark_most (omega (arith, c.if-left-width.true, long m))))
+
+pub returns-then-field-mark : goal.returns-then-field-mark
+returns-then-field-mark c =
+    let f = c in
+    let m = f in
+    let a = m.args in
+    let ed = edition_of a.edition in
+    sym (simp (mark-rest ed.mark a.x a.left ed.mark_most ed.mark_least (λ e. c.if-field-mark.true (behind f ∙ e ∙ sym (rests m)))))
+
+pub returns : goal.returns
+returns c =
+    let e = c in
+    let f = e in
+    let m = f in
+    let a = m.args in
+    let ed = edition_of a.edition in
+    c.tail.ensures ∙ ap (λ n. end_at (take (a.left - n) (drop n (bits 64 a.x))) 0) (long m)
+    ∙ sym (simp (mark-is ed.mark a.x a.left ed.mark_most ed.mark_least (omega (arith, f.if-left-width.false, long m)) (sym m.requires ∙ f.if-kind-mark.false ∙ kinds m) (sym (behind f) ∙ e.if-field-mark.false ∙ rests m)))
