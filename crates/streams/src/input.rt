@@ -1,7 +1,9 @@
 // Standard input. A read that fails is told apart from the input's end, and is said at once, while its reason is known.
-ghost use Rattle.io.specs.Counts.{IsPrefixLen};
+ghost use Rattle.streams.specs.Counts.{IsPrefixLen};
 
-use libc::STDIN_FILENO;
+use crate::failure::fail;
+use std::io;
+use std::io::Read;
 
 // How many bytes were read to the front of a buffer, and whether a read failed.
 #[derive(Clone, Copy)]
@@ -11,31 +13,32 @@ pub struct Input {
 }
 
 // One read; at the input's end it brings no bytes.
-pub fn read_some(buffer: &mut [u8]) -> Input
+pub fn read_some(rt: &(impl io::Input + Eprint), buffer: &mut [u8]) -> Input
     ensures { IsPrefixLen result.length buffer.new }
 {
-    let got = libc::read(STDIN_FILENO, buffer);
-    if got < 0 {
-        os::fail(b"standard input");
-        return Input {
-            length: 0,
-            failed: true,
-        };
-    }
-    let n = io::count(got, buffer);
-    Input {
-        length: n,
-        failed: false,
+    let mut reader = rt.reader();
+    match reader.read(buffer) {
+        Err(why) => {
+            fail(rt, "standard input", why);
+            Input {
+                length: 0,
+                failed: true,
+            }
+        }
+        Ok(n) => Input {
+            length: n,
+            failed: false,
+        },
     }
 }
 
 // Reads until the buffer is full or the input ends.
-pub fn read_all(buffer: &mut [u8]) -> Input
+pub fn read_all(rt: &(impl io::Input + Eprint), buffer: &mut [u8]) -> Input
     ensures { IsPrefixLen result.length buffer.new }
 {
     let mut done = 0;
     while done < buffer.len() {
-        let more = read_some(&mut buffer[done..]);
+        let more = read_some(rt, &mut buffer[done..]);
         if more.failed {
             return Input {
                 length: done,

@@ -1,6 +1,8 @@
 // What every program needs of the system: standard input and output, arguments as words, and how it ended. Every failure is seen and said.
 #![tactic(auto)]
+
 mod ended;
+mod failure;
 mod input;
 mod out;
 mod words;

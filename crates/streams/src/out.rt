@@ -1,5 +1,8 @@
 // Text collected in a lent buffer. A full buffer is written out and filled anew, so nothing is left out and no line is too long.
-use libc::STDOUT_FILENO;
+ghost use Rattle.std.specs.Prelude.{◌≤◌};
+
+use crate::failure::fail;
+use itoa::Buffer;
 
 // How many bytes of the buffer hold text, and whether a write failed: then nothing more is written.
 #[derive(Clone, Copy)]
@@ -16,33 +19,35 @@ pub fn no_text() -> Out {
 }
 
 // Whether the front of a buffer was written; a failure is said at once, while its reason is known.
-fn write_front(buffer: &[u8], end: usize) -> bool {
+fn write_front(rt: &(impl Print + Eprint), buffer: &[u8], end: usize) -> bool {
     if buffer.len() < end {
         return false;
     }
-    if io::write_all(STDOUT_FILENO, &buffer[..end]) {
-        return true;
+    match rt.write_all(&buffer[..end]) {
+        Ok(()) => true,
+        Err(why) => {
+            fail(rt, "standard output", why);
+            false
+        }
     }
-    os::fail(b"standard output");
-    false
 }
 
 // Writes what is collected.
-pub(crate) fn write_out(buffer: &[u8; 4096], out: Out) -> Out {
+pub(crate) fn write_out(rt: &(impl Print + Eprint), buffer: &[u8; 4096], out: Out) -> Out {
     if out.failed {
         return Out {
             end: 0,
             failed: true,
         };
     }
-    let written = write_front(buffer, out.end);
+    let written = write_front(rt, buffer, out.end);
     Out {
         end: 0,
         failed: !written,
     }
 }
 
-fn put_byte(buffer: &mut [u8; 4096], out: Out, byte: u8) -> Out {
+fn put_byte(rt: &(impl Print + Eprint), buffer: &mut [u8; 4096], out: Out, byte: u8) -> Out {
     let end = out.end;
     if end < 4096 {
         buffer[end] = byte;
@@ -51,7 +56,7 @@ fn put_byte(buffer: &mut [u8; 4096], out: Out, byte: u8) -> Out {
             failed: out.failed,
         };
     }
-    let emptied = write_out(buffer, out);
+    let emptied = write_out(rt, buffer, out);
     buffer[0] = byte;
     Out {
         end: 1,
@@ -59,27 +64,48 @@ fn put_byte(buffer: &mut [u8; 4096], out: Out, byte: u8) -> Out {
     }
 }
 
-pub fn put(buffer: &mut [u8; 4096], out: Out, text: &[u8]) -> Out {
+pub fn put(rt: &(impl Print + Eprint), buffer: &mut [u8; 4096], out: Out, text: &[u8]) -> Out {
     let mut to = out;
     let mut i = 0;
     while i < text.len() {
-        to = put_byte(buffer, to, text[i]);
+        to = put_byte(rt, buffer, to, text[i]);
         i += 1;
     }
     to
 }
 
 // A text and a number behind it.
-pub fn put_decimal(buffer: &mut [u8; 4096], out: Out, before: &[u8], number: u64) -> Out {
-    let mut digits = [0u8; 20];
-    let n = io::decimal(number, &mut digits);
-    let to = put(buffer, out, before);
-    put(buffer, to, &digits[..n])
+pub fn put_decimal(
+    rt: &(impl Print + Eprint),
+    buffer: &mut [u8; 4096],
+    out: Out,
+    before: &[u8],
+    number: u64,
+) -> Out {
+    let mut digits = Buffer::new();
+    let to = put(rt, buffer, out, before);
+    put(rt, buffer, to, digits.format(number).as_bytes())
+}
+
+// How many hexadecimal digits a number is put in: as many as it takes, or as are wanted, from 1 to 16.
+fn hex_length(number: u64, width: usize) -> usize
+    ensures { result ≤ 16 }
+{
+    let bits = 64 - number.leading_zeros() as usize;
+    bits.div_ceil(4).max(width).clamp(1, 16)
 }
 
 // A number in so many hexadecimal digits.
-pub fn put_hex(buffer: &mut [u8; 4096], out: Out, number: u64, width: usize) -> Out {
+pub fn put_hex(
+    rt: &(impl Print + Eprint),
+    buffer: &mut [u8; 4096],
+    out: Out,
+    number: u64,
+    width: usize,
+) -> Out {
     let mut digits = [0u8; 16];
-    let n = io::hex(number, width, &mut digits);
-    put(buffer, out, &digits[..n])
+    // There is room for two digits of each of eight bytes.
+    let _ = hex::encode_to_slice(number.to_be_bytes(), &mut digits);
+    let start = 16 - hex_length(number, width);
+    put(rt, buffer, out, &digits[start..])
 }

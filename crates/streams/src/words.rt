@@ -1,6 +1,8 @@
 // Words of a text or an argument, taken byte by byte: what a word says, and the number that it is.
 ghost use Rattle.std.specs.Prelude.{◌≤◌};
 
+use std::rt::Env;
+
 // The number that some digits are, up to 65,536 for all that is larger, which is over every bound; or that they are none.
 #[derive(Clone, Copy)]
 pub enum Number {
@@ -87,8 +89,10 @@ pub fn is_word(word: Word, text: &[u8]) -> bool {
 }
 
 // Argument i as a word: one with no bytes where it is missing, empty, or longer than any that a program takes.
-pub fn argument(i: usize) -> Word {
+pub fn argument(rt: &impl Env, i: usize) -> Word {
     let mut text = [0u8; 16];
-    let n = os::arg(i, &mut text);
-    word_of(&text[..n])
+    match rt.arg(i, &mut text) {
+        Ok(n) => word_of(&text[..n]),
+        Err(_) => no_word(),
+    }
 }
