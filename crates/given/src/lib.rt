@@ -1,5 +1,6 @@
 // The examples of the program numbers: their text, the state that the parts of one give, and one number of a whole state.
 #![tactic(auto)]
+
 mod states;
 mod sums;
 mod text;

@@ -1,5 +1,6 @@
 // The lines that the programs print of a tape, played or listed.
 #![tactic(auto)]
+
 mod answers;
 mod listed;
 mod played;

@@ -48,16 +48,23 @@ fn start_of(form: Form, first: u16) -> Run {
     }
 }
 
-fn put_head(buffer: &mut [u8; 4096], out: Out, form: Form, first: u16) -> Out {
+fn put_head(
+    rt: &(impl Print + Eprint),
+    buffer: &mut [u8; 4096],
+    out: Out,
+    form: Form,
+    first: u16,
+) -> Out {
     match form {
         Form::Played => out,
         Form::PlayedFrom(_) => out,
-        Form::Listed => put_first(buffer, out, first),
+        Form::Listed => put_first(rt, buffer, out, first),
     }
 }
 
 // The line of a step. No word of a tape that was read is no step.
 fn put_line(
+    rt: &(impl Print + Eprint),
     buffer: &mut [u8; 4096],
     out: Out,
     form: Form,
@@ -69,22 +76,36 @@ fn put_line(
         return out;
     };
     match form {
-        Form::Played => put_played(buffer, out, number, step, outcome),
-        Form::PlayedFrom(_) => put_played(buffer, out, number, step, outcome),
-        Form::Listed => put_listed(buffer, out, step, outcome),
+        Form::Played => put_played(rt, buffer, out, number, step, outcome),
+        Form::PlayedFrom(_) => put_played(rt, buffer, out, number, step, outcome),
+        Form::Listed => put_listed(rt, buffer, out, step, outcome),
     }
 }
 
-fn put_last(buffer: &mut [u8; 4096], out: Out, form: Form, steps: usize, books: u64) -> Out {
+fn put_last(
+    rt: &(impl Print + Eprint),
+    buffer: &mut [u8; 4096],
+    out: Out,
+    form: Form,
+    steps: usize,
+    books: u64,
+) -> Out {
     match form {
-        Form::Played => put_end(buffer, out, steps, books),
-        Form::PlayedFrom(_) => put_end(buffer, out, steps, books),
+        Form::Played => put_end(rt, buffer, out, steps, books),
+        Form::PlayedFrom(_) => put_end(rt, buffer, out, steps, books),
         Form::Listed => out,
     }
 }
 
 // Takes the steps from a run. A refused step leaves the run going.
-fn put_steps(buffer: &mut [u8; 4096], out: Out, form: Form, start: Run, words: &[u64]) -> Out {
+fn put_steps(
+    rt: &(impl Print + Eprint),
+    buffer: &mut [u8; 4096],
+    out: Out,
+    form: Form,
+    start: Run,
+    words: &[u64],
+) -> Out {
     let mut run = start;
     let mut to = out;
     let mut books = 0;
@@ -96,58 +117,58 @@ fn put_steps(buffer: &mut [u8; 4096], out: Out, form: Form, start: Run, words: &
         run = stepped.run;
         // Each step hands back one book at most, so the sum never wraps.
         books = std::num::wrapping_add_u64(books, books_in(outcome));
-        to = put_line(buffer, to, form, i, word, outcome);
+        to = put_line(rt, buffer, to, form, i, word, outcome);
         i += 1;
     }
-    put_last(buffer, to, form, i, books)
+    put_last(rt, buffer, to, form, i, books)
 }
 
-fn show_steps(form: Form, first: u16, words: &[u64]) -> Ended {
-    let mut buffer = io::buffer();
-    let head = put_head(&mut buffer, no_text(), form, first);
-    let out = put_steps(&mut buffer, head, form, start_of(form, first), words);
-    written(&buffer, out, Ended::Well)
+fn show_steps(rt: &(impl Print + Eprint), form: Form, first: u16, words: &[u64]) -> Ended {
+    let mut buffer = [0u8; 4096];
+    let head = put_head(rt, &mut buffer, no_text(), form, first);
+    let out = put_steps(rt, &mut buffer, head, form, start_of(form, first), words);
+    written(rt, &buffer, out, Ended::Well)
 }
 
-fn show_bad(number: u8) -> Ended {
-    let mut buffer = io::buffer();
-    let out = put_bad(&mut buffer, no_text(), number);
-    written(&buffer, out, Ended::Refused)
+fn show_bad(rt: &(impl Print + Eprint), number: u8) -> Ended {
+    let mut buffer = [0u8; 4096];
+    let out = put_bad(rt, &mut buffer, no_text(), number);
+    written(rt, &buffer, out, Ended::Refused)
 }
 
 // What a refused tape prints: a line in place of the steps, or, where it is listed, a line on standard error.
-fn show_refused(form: Form, number: u8) -> Ended {
+fn show_refused(rt: &(impl Print + Eprint), form: Form, number: u8) -> Ended {
     match form {
-        Form::Played => show_bad(number),
-        Form::PlayedFrom(_) => show_bad(number),
+        Form::Played => show_bad(rt, number),
+        Form::PlayedFrom(_) => show_bad(rt, number),
         Form::Listed => {
-            say_refused(number);
+            say_refused(rt, number);
             Ended::Refused
         }
     }
 }
 
-fn show_tape(form: Form, tape: &[u8]) -> Ended {
+fn show_tape(rt: &(impl Print + Eprint), form: Form, tape: &[u8]) -> Ended {
     // A step takes 6 bits at least, so a tape of 4,096 bytes has no more than 5,458.
     let mut row = [0u64; 5458];
     let read = tape::read_tape(tape, &mut row);
     match read {
         Read::Steps(recorded) => {
             let steps = recorded.steps;
-            show_steps(form, recorded.first, &row[..steps])
+            show_steps(rt, form, recorded.first, &row[..steps])
         }
-        Read::Refused(number) => show_refused(form, number),
+        Read::Refused(number) => show_refused(rt, form, number),
     }
 }
 
 // Shows the tape on standard input.
-pub fn show_input(form: Form) -> Ended {
+pub fn show_input(rt: &(impl Input + Print + Eprint), form: Form) -> Ended {
     // One byte more than a tape has at most, so that a longer one is refused by 11.
     let mut bytes = [0u8; 4097];
-    let input = read_all(&mut bytes);
+    let input = read_all(rt, &mut bytes);
     if input.failed {
         return Ended::Failed;
     }
     let n = input.length;
-    show_tape(form, &bytes[..n])
+    show_tape(rt, form, &bytes[..n])
 }

@@ -11,8 +11,8 @@
 //
 //     ask TABLET ADDED REMOVED · advance TABLET · deliver SLOT · lose SLOT · repeat SLOT · stop DEVICE · unplug BOX · start BOXES
 #![tactic(auto)]
+
 use given::{Given, PARTS, Part};
-use libc::STDIN_FILENO;
 
 mod shown;
 
@@ -28,36 +28,36 @@ fn nothing_given() -> Given {
     [none; PARTS]
 }
 
-fn with_part(mut given: Given, part: Part) -> Given {
+fn with_part(rt: &impl Print, mut given: Given, part: Part) -> Given {
     let place = given::place_of(part.name);
     if place < PARTS {
         given[place] = part;
     } else {
-        shown::show(given, part);
+        shown::show(rt, given, part);
     }
     given
 }
 
 // The piece at a place: words, which begin with a digit, begin an example.
-fn after_piece(text: &[u8], turn: Turn) -> Turn {
+fn after_piece(rt: &impl Print, text: &[u8], turn: Turn) -> Turn {
     let at = turn.at;
     if given::byte_at(text, at) <= b'9' {
         let none = nothing_given();
         return Turn {
             given: none,
-            at: shown::say_words(text, at),
+            at: shown::say_words(rt, text, at),
         };
     }
     let part = given::part_at(text, at);
     let before = turn.given;
-    let given = with_part(before, part);
+    let given = with_part(rt, before, part);
     Turn {
         given: given,
         at: part.next,
     }
 }
 
-fn examples(text: &[u8]) {
+fn examples(rt: &impl Print, text: &[u8]) {
     let none = nothing_given();
     let mut turn = Turn { given: none, at: 0 };
     // A text has no more pieces than bytes.
@@ -66,13 +66,14 @@ fn examples(text: &[u8]) {
         if text.len() <= turn.at {
             return;
         }
-        turn = after_piece(text, turn);
+        turn = after_piece(rt, text, turn);
         pieces += 1;
     }
 }
 
-fn main() {
-    let mut text = io::large_buffer();
-    let n = io::read_full(STDIN_FILENO, &mut text);
-    examples(&text[..n]);
+fn main(rt: HostRuntime) {
+    let mut text = [0u8; 65536];
+    let input = streams::read_all(&rt, &mut text);
+    let n = input.length;
+    examples(&rt, &text[..n]);
 }

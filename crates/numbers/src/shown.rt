@@ -1,87 +1,86 @@
 // What a step, the start and the unplug question answer, behind the words of an example.
 use devices::{Outcome, Step};
 use given::{Given, Part, byte, pair, state_of};
-use libc::STDOUT_FILENO;
 use parlour::Unplug;
 use state::Run;
 
-pub(crate) fn say(text: &[u8]) {
-    io::write_all(STDOUT_FILENO, text);
+pub(crate) fn say(rt: &impl Print, text: &[u8]) {
+    let _ = rt.write_all(text);
 }
 
-pub(crate) fn say_number(number: u64) {
-    io::print_decimal(STDOUT_FILENO, number);
+pub(crate) fn say_number(rt: &impl Print, number: u64) {
+    let _ = rt.print(number);
 }
 
 // Prints the words of an example, and gives the place of the piece behind them.
-pub(crate) fn say_words(text: &[u8], from: usize) -> usize {
+pub(crate) fn say_words(rt: &impl Print, text: &[u8], from: usize) -> usize {
     let to = given::words_end(text, from);
     if from <= to {
         if to <= text.len() {
-            say(&text[from..to]);
+            say(rt, &text[from..to]);
         }
     }
-    say(b": ");
+    say(rt, b": ");
     given::behind(text, to)
 }
 
-fn say_round(round: u16) {
-    say(b" R ");
-    say_number(round as u64);
+fn say_round(rt: &impl Print, round: u16) {
+    say(rt, b" R ");
+    say_number(rt, round as u64);
 }
 
 // What an outcome brings besides its number.
-fn say_values(outcome: Outcome) {
+fn say_values(rt: &impl Print, outcome: Outcome) {
     match outcome {
         Outcome::Done => (),
-        Outcome::Round(round) => say_round(round),
-        Outcome::Committed(_) => say(b" C"),
-        Outcome::Adopted(_) => say(b" A"),
+        Outcome::Round(round) => say_round(rt, round),
+        Outcome::Committed(_) => say(rt, b" C"),
+        Outcome::Adopted(_) => say(rt, b" A"),
         Outcome::Refused(_) => (),
     }
 }
 
-fn say_state(same: bool) {
+fn say_state(rt: &impl Print, same: bool) {
     if same {
-        say(b", state as given");
+        say(rt, b", state as given");
     } else {
-        say(b", STATE CHANGED");
+        say(rt, b", STATE CHANGED");
     }
 }
 
 // An outcome, and of a refusal whether it hands back the very state: the sums of the states before and after.
-fn say_outcome(outcome: Outcome, before: u64, after: u64) {
+fn say_outcome(rt: &impl Print, outcome: Outcome, before: u64, after: u64) {
     let number = devices::number_of(outcome);
-    say_number(number as u64);
-    say_values(outcome);
+    say_number(rt, number as u64);
+    say_values(rt, outcome);
     if number != 0 {
-        say_state(before == after);
+        say_state(rt, before == after);
     }
 }
 
-fn show_step(run: Run, step: Step) {
+fn show_step(rt: &impl Print, run: Run, step: Step) {
     let before = given::sum_of(run);
     let stepped = parlour::step(run, step);
     let outcome = stepped.outcome;
-    say_outcome(outcome, before, given::sum_of(stepped.run));
+    say_outcome(rt, outcome, before, given::sum_of(stepped.run));
 }
 
-fn show_start(first: u16) {
+fn show_start(rt: &impl Print, first: u16) {
     let started = state::start(first);
     let outcome = started.outcome;
-    say_number(devices::number_of(outcome) as u64);
+    say_number(rt, devices::number_of(outcome) as u64);
 }
 
-fn say_unplug(answer: Unplug) {
+fn say_unplug(rt: &impl Print, answer: Unplug) {
     match answer {
-        Unplug::May => say(b"0 yes"),
-        Unplug::MayNot => say(b"0 no"),
-        Unplug::Unanswered(n) => say_number(n as u64),
+        Unplug::May => say(rt, b"0 yes"),
+        Unplug::MayNot => say(rt, b"0 no"),
+        Unplug::Unanswered(n) => say_number(rt, n as u64),
     }
 }
 
-fn show_unplug(given: Given, number: u8) {
-    say_unplug(parlour::may_unplug(state_of(given), number));
+fn show_unplug(rt: &impl Print, given: Given, number: u8) {
+    say_unplug(rt, parlour::may_unplug(state_of(given), number));
 }
 
 // The step that a part names, if it names one.
@@ -120,23 +119,23 @@ fn step_named(part: Part) -> Named {
 }
 
 // Shows the step that a part names.
-fn show_named(given: Given, part: Part) {
+fn show_named(rt: &impl Print, given: Given, part: Part) {
     let Named::Step(step) = step_named(part) else {
-        say(b"NO SUCH PART");
+        say(rt, b"NO SUCH PART");
         return;
     };
-    show_step(state_of(given), step);
+    show_step(rt, state_of(given), step);
 }
 
 // Shows what a part asks of a state.
-pub(crate) fn show(given: Given, part: Part) {
+pub(crate) fn show(rt: &impl Print, given: Given, part: Part) {
     let name = part.name;
     match name {
         // `start`
-        0x7374617274 => show_start(given::two_bytes(part.first)),
+        0x7374617274 => show_start(rt, given::two_bytes(part.first)),
         // `unplug`
-        0x756e706c7567 => show_unplug(given, byte(part.first)),
-        _ => show_named(given, part),
+        0x756e706c7567 => show_unplug(rt, given, byte(part.first)),
+        _ => show_named(rt, given, part),
     }
-    say(b"\n");
+    say(rt, b"\n");
 }

@@ -1,6 +1,7 @@
 // Reads the tape on standard input a thousand times and prints how many steps that gave: what tools/bench measures of the reader.
 #![tactic(auto)]
-use libc::{STDIN_FILENO, STDOUT_FILENO};
+
+use std::io;
 use tape::Read;
 
 // How many steps a reading gave.
@@ -24,11 +25,10 @@ fn read_often(tape: &[u8]) -> u64 {
     sum
 }
 
-fn main() {
+fn main(rt: HostRuntime) -> io::Result<()> {
     let mut bytes = [0u8; 4097];
-    let n = io::read_full(STDIN_FILENO, &mut bytes);
-    let mut digits = [0u8; 20];
-    let k = io::decimal(read_often(&bytes[..n]), &mut digits);
-    io::write_all(STDOUT_FILENO, &digits[..k]);
-    io::write_all(STDOUT_FILENO, b"\n");
+    let input = streams::read_all(&rt, &mut bytes);
+    let n = input.length;
+    let steps = read_often(&bytes[..n]);
+    println!(rt; "{steps}")
 }

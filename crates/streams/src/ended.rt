@@ -55,7 +55,7 @@ pub fn written(rt: &(impl Print + Eprint), buffer: &[u8; 4096], out: Out, so: En
     if last.failed { Ended::Failed } else { so }
 }
 
-// A text on standard error.
+// A text on standard error. Bytes that are no text are left out.
 pub fn say(rt: &impl Eprint, text: &[u8]) {
     for part in text.utf8_chunks() {
         let _ = rt.eprint(part.valid());

@@ -5,47 +5,47 @@ ghost use Rattle.std.specs.Prelude.{◌≡◌, length};
 use crate::said::{bytes_lent, say, say_hexadecimal, say_number, words_lent};
 use tape::{Read, Recorded};
 
-fn say_recorded(recorded: Recorded) {
-    say(b"0 first ");
-    say_hexadecimal(recorded.first as u64, 4);
-    say(b" steps ");
-    say_number(recorded.steps as u64);
+fn say_recorded(rt: &impl Print, recorded: Recorded) {
+    say(rt, b"0 first ");
+    say_hexadecimal(rt, recorded.first as u64, 4);
+    say(rt, b" steps ");
+    say_number(rt, recorded.steps as u64);
 }
 
-fn say_read(read: Read) {
+fn say_read(rt: &impl Print, read: Read) {
     match read {
-        Read::Steps(recorded) => say_recorded(recorded),
-        Read::Refused(number) => say_number(number as u64),
+        Read::Steps(recorded) => say_recorded(rt, recorded),
+        Read::Refused(number) => say_number(rt, number as u64),
     }
 }
 
-fn say_places(places: usize) {
-    say(b" into ");
-    say_number(places as u64);
-    say(b" places: ");
+fn say_places(rt: &impl Print, places: usize) {
+    say(rt, b" into ");
+    say_number(rt, places as u64);
+    say(rt, b" places: ");
 }
 
-fn say_check(number: u8) {
-    say(b", check ");
-    say_number(number as u64);
-    say(b", row");
+fn say_check(rt: &impl Print, number: u8) {
+    say(rt, b", check ");
+    say_number(rt, number as u64);
+    say(rt, b", row");
 }
 
-fn say_word(word: u64) {
-    say(b" ");
-    say_hexadecimal(word, 1);
+fn say_word(rt: &impl Print, word: u64) {
+    say(rt, b" ");
+    say_hexadecimal(rt, word, 1);
 }
 
-fn read_into(tape: &[u8], row: &mut [u64]) {
-    say_read(tape::read_tape(tape, row));
-    say_check(tape::tape_check(tape));
+fn read_into(rt: &impl Print, tape: &[u8], row: &mut [u64]) {
+    say_read(rt, tape::read_tape(tape, row));
+    say_check(rt, tape::tape_check(tape));
 }
 
-fn say_row(first: u64, second: u64, third: u64) {
-    say_word(first);
-    say_word(second);
-    say_word(third);
-    say(b"\n");
+fn say_row(rt: &impl Print, first: u64, second: u64, third: u64) {
+    say_word(rt, first);
+    say_word(rt, second);
+    say_word(rt, third);
+    say(rt, b"\n");
 }
 
 // A number of so many bytes at the top of 64 bits.
@@ -82,24 +82,24 @@ fn ten_bytes(first: u16, part: u64) -> [u8; 10]
     ]
 }
 
-fn say_tape(first: u16, behind: usize, part: u64) {
-    say(b"  ");
-    say_hexadecimal(first as u64, 4);
+fn say_tape(rt: &impl Print, first: u16, behind: usize, part: u64) {
+    say(rt, b"  ");
+    say_hexadecimal(rt, first as u64, 4);
     if behind != 0 {
-        say_hexadecimal(part, std::num::wrapping_add_usize(behind, behind));
+        say_hexadecimal(rt, part, std::num::wrapping_add_usize(behind, behind));
     }
 }
 
 // Reads the tape of first boxes and so many bytes behind them, which a number is, into the first places of a row of three.
-pub(crate) fn read(first: u16, behind: usize, part: u64, places: usize) {
-    say_tape(first, behind, part);
+pub(crate) fn read(rt: &impl Print, first: u16, behind: usize, part: u64, places: usize) {
+    say_tape(rt, first, behind, part);
     let bytes = ten_bytes(first, at_top(part, behind));
     let mut row = [7u64; 3];
     let n = bytes_lent(std::num::wrapping_add_usize(2, behind), &bytes);
     let k = words_lent(places, &row);
-    say_places(k);
-    read_into(&bytes[..n], &mut row[..k]);
-    say_row(row[0], row[1], row[2]);
+    say_places(rt, k);
+    read_into(rt, &bytes[..n], &mut row[..k]);
+    say_row(rt, row[0], row[1], row[2]);
 }
 
 // A tape of so many bytes: first boxes, Stop of device 0 in each byte, and the end mark in the last one.
@@ -113,21 +113,21 @@ fn long_tape(size: usize, first: u8) -> [u8; 4097]
     bytes
 }
 
-fn say_long_tape(size: usize, first: u8) {
-    say(b"  ");
-    say_number(size as u64);
-    say(b" bytes with first boxes ");
-    say_hexadecimal(first as u64, 4);
+fn say_long_tape(rt: &impl Print, size: usize, first: u8) {
+    say(rt, b"  ");
+    say_number(rt, size as u64);
+    say(rt, b" bytes with first boxes ");
+    say_hexadecimal(rt, first as u64, 4);
 }
 
 // Reads such a tape into the first places of a row of 4,094, of which the first and the last two are shown.
-pub(crate) fn read_long(size: usize, first: u8, places: usize) {
-    say_long_tape(size, first);
+pub(crate) fn read_long(rt: &impl Print, size: usize, first: u8, places: usize) {
+    say_long_tape(rt, size, first);
     let bytes = long_tape(size, first);
     let mut row = [7u64; 4094];
     let n = bytes_lent(size, &bytes);
     let k = words_lent(places, &row);
-    say_places(k);
-    read_into(&bytes[..n], &mut row[..k]);
-    say_row(row[0], row[4092], row[4093]);
+    say_places(rt, k);
+    read_into(rt, &bytes[..n], &mut row[..k]);
+    say_row(rt, row[0], row[4092], row[4093]);
 }

@@ -1,19 +1,18 @@
 // What the examples of reading and of writing share: printing, and how much is lent.
-ghost use Rattle.io.specs.Counts.{IsPrefixLen};
+ghost use Rattle.streams.specs.Counts.{IsPrefixLen};
 
-use libc::STDOUT_FILENO;
-
-pub(crate) fn say(text: &[u8]) {
-    io::write_all(STDOUT_FILENO, text);
+pub(crate) fn say(rt: &impl Print, text: &[u8]) {
+    let _ = rt.write_all(text);
 }
 
-pub(crate) fn say_number(number: u64) {
-    io::print_decimal(STDOUT_FILENO, number);
+pub(crate) fn say_number(rt: &impl Print, number: u64) {
+    let _ = rt.print(number);
 }
 
-// A number in hexadecimal digits, at least so many.
-pub(crate) fn say_hexadecimal(number: u64, digits: usize) {
-    io::print_hex(STDOUT_FILENO, number, digits);
+// A number in hexadecimal digits, at least so many, of which there are 16 at most.
+pub(crate) fn say_hexadecimal(rt: &impl Print, number: u64, digits: usize) {
+    let width = digits.min(16);
+    let _ = print!(rt; "{number:0width$x}");
 }
 
 // How many of some bytes are lent: a number of them, or all.

@@ -5,54 +5,54 @@ ghost use Rattle.std.specs.Prelude.{◌≡◌, length};
 use crate::said::{bytes_lent, say, say_hexadecimal, say_number, words_lent};
 use tape::Written;
 
-fn say_bytes(count: usize) {
-    say(b"0 bytes ");
-    say_number(count as u64);
+fn say_bytes(rt: &impl Print, count: usize) {
+    say(rt, b"0 bytes ");
+    say_number(rt, count as u64);
 }
 
-fn say_written(written: Written) {
+fn say_written(rt: &impl Print, written: Written) {
     match written {
-        Written::Bytes(count) => say_bytes(count),
-        Written::Refused(number) => say_number(number as u64),
+        Written::Bytes(count) => say_bytes(rt, count),
+        Written::Refused(number) => say_number(rt, number as u64),
     }
 }
 
-fn say_size(size: usize) {
-    say(b" into ");
-    say_number(size as u64);
-    say(b" bytes: ");
+fn say_size(rt: &impl Print, size: usize) {
+    say(rt, b" into ");
+    say_number(rt, size as u64);
+    say(rt, b" bytes: ");
 }
 
 fn with_byte(number: u64, byte: u8) -> u64 {
     (number << 8) | byte as u64
 }
 
-fn say_buffer(bytes: [u8; 10]) {
-    say(b", buffer ");
-    say_hexadecimal(with_byte(bytes[0] as u64, bytes[1]), 4);
+fn say_buffer(rt: &impl Print, bytes: [u8; 10]) {
+    say(rt, b", buffer ");
+    say_hexadecimal(rt, with_byte(bytes[0] as u64, bytes[1]), 4);
     let fourth = with_byte(bytes[2] as u64, bytes[3]);
     let sixth = with_byte(with_byte(fourth, bytes[4]), bytes[5]);
     let eighth = with_byte(with_byte(sixth, bytes[6]), bytes[7]);
-    say_hexadecimal(with_byte(with_byte(eighth, bytes[8]), bytes[9]), 16);
-    say(b"\n");
+    say_hexadecimal(rt, with_byte(with_byte(eighth, bytes[8]), bytes[9]), 16);
+    say(rt, b"\n");
 }
 
-fn say_word(first: u16, word: u64) {
-    say(b"  ");
-    say_hexadecimal(first as u64, 4);
-    say(b" ");
-    say_hexadecimal(word, 16);
+fn say_word(rt: &impl Print, first: u16, word: u64) {
+    say(rt, b"  ");
+    say_hexadecimal(rt, first as u64, 4);
+    say(rt, b" ");
+    say_hexadecimal(rt, word, 16);
 }
 
 // Writes one word into the first bytes of a buffer of ten, all of which a long Ask takes.
-pub(crate) fn write(first: u16, word: u64, size: usize) {
-    say_word(first, word);
+pub(crate) fn write(rt: &impl Print, first: u16, word: u64, size: usize) {
+    say_word(rt, first, word);
     let words = [word];
     let mut buffer = [0x55u8; 10];
     let k = bytes_lent(size, &buffer);
-    say_size(k);
-    say_written(tape::write_tape(first, &words, &mut buffer[..k]));
-    say_buffer(buffer);
+    say_size(rt, k);
+    say_written(rt, tape::write_tape(first, &words, &mut buffer[..k]));
+    say_buffer(rt, buffer);
 }
 
 // So many words: Stop of device 0 in each, and this as the last one.
@@ -64,32 +64,35 @@ fn long_row(count: usize, last: u64) -> [u64; 4094]
     words
 }
 
-fn say_long_row(count: usize, last: u64) {
-    say(b"  ");
-    say_number(count as u64);
-    say(b" words with last ");
-    say_hexadecimal(last, 16);
+fn say_long_row(rt: &impl Print, count: usize, last: u64) {
+    say(rt, b"  ");
+    say_number(rt, count as u64);
+    say(rt, b" words with last ");
+    say_hexadecimal(rt, last, 16);
 }
 
 // Writes such words into the first bytes of a buffer of 4,097, of which the first five and the last five are shown.
-pub(crate) fn write_long(count: usize, last: u64, size: usize) {
-    say_long_row(count, last);
+pub(crate) fn write_long(rt: &impl Print, count: usize, last: u64, size: usize) {
+    say_long_row(rt, count, last);
     let words = long_row(count, last);
     let mut buffer = [0x55u8; 4097];
     let n = words_lent(count, &words);
     let k = bytes_lent(size, &buffer);
-    say_size(k);
-    say_written(tape::write_tape(0x0007, &words[..n], &mut buffer[..k]));
-    say_buffer([
-        buffer[0],
-        buffer[1],
-        buffer[2],
-        buffer[3],
-        buffer[4],
-        buffer[4092],
-        buffer[4093],
-        buffer[4094],
-        buffer[4095],
-        buffer[4096],
-    ]);
+    say_size(rt, k);
+    say_written(rt, tape::write_tape(0x0007, &words[..n], &mut buffer[..k]));
+    say_buffer(
+        rt,
+        [
+            buffer[0],
+            buffer[1],
+            buffer[2],
+            buffer[3],
+            buffer[4],
+            buffer[4092],
+            buffer[4093],
+            buffer[4094],
+            buffer[4095],
+            buffer[4096],
+        ],
+    );
 }

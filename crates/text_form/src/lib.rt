@@ -1,6 +1,7 @@
 // The text form of tapes, read from standard input: its first boxes, and the words of its steps in a lent row.
 // A bad line is said on standard error, with its number and what is wrong with it.
 #![tactic(auto)]
+
 mod encoded;
 mod steps;
 mod text;
@@ -17,7 +18,7 @@ pub struct Taken {
     pub ended: Ended,
 }
 
-fn ended_by(text: Text) -> Ended {
+fn ended_by(rt: &impl Eprint, text: Text) -> Ended {
     if text.failed {
         return Ended::Failed;
     }
@@ -25,16 +26,16 @@ fn ended_by(text: Text) -> Ended {
     match fault {
         Fault::None => Ended::Well,
         Fault::Wrong(wrong) => {
-            wrong::say_line(text.line, wrong);
+            wrong::say_line(rt, text.line, wrong);
             Ended::Refused
         }
     }
 }
 
 // The row has one place more than a tape of 4,096 bytes has steps, so that a longer one is refused by 11 when it is written.
-pub fn read_text(row: &mut [u64; 5459]) -> Taken {
-    let text = text::take_text(row);
-    let ended = ended_by(text);
+pub fn read_text(rt: &(impl Input + Eprint), row: &mut [u64; 5459]) -> Taken {
+    let text = text::take_text(rt, row);
+    let ended = ended_by(rt, text);
     Taken {
         first: text.first,
         steps: text.steps,

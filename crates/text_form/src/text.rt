@@ -180,9 +180,9 @@ fn take_bytes(start: Text, row: &mut [u64; 5459], bytes: &[u8]) -> Text {
 }
 
 // The text with the bytes of one read.
-fn take_some(mut text: Text, row: &mut [u64; 5459]) -> Text {
-    let mut buffer = io::buffer();
-    let input = streams::read_some(&mut buffer);
+fn take_some(rt: &(impl Input + Eprint), mut text: Text, row: &mut [u64; 5459]) -> Text {
+    let mut buffer = [0u8; 4096];
+    let input = streams::read_some(rt, &mut buffer);
     if input.failed {
         text.ended = true;
         text.failed = true;
@@ -197,12 +197,12 @@ fn take_some(mut text: Text, row: &mut [u64; 5459]) -> Text {
 }
 
 // The text on standard input, its step words in the row.
-pub(crate) fn take_text(row: &mut [u64; 5459]) -> Text {
+pub(crate) fn take_text(rt: &(impl Input + Eprint), row: &mut [u64; 5459]) -> Text {
     let mut text = no_text();
     // No input is that long.
     let mut reads: u64 = 18446744073709551615;
     while 0 < reads {
-        text = take_some(text, row);
+        text = take_some(rt, text, row);
         if text.ended {
             return text;
         }

@@ -1,5 +1,4 @@
 // What may be wrong with a line of a text, and how that is said.
-use libc::STDERR_FILENO;
 use streams::say;
 
 #[derive(Clone, Copy)]
@@ -20,29 +19,29 @@ pub(crate) enum Wrong {
     FirstAgain,
 }
 
-fn say_wrong(wrong: Wrong) {
+fn say_wrong(rt: &impl Eprint, wrong: Wrong) {
     match wrong {
-        Wrong::NoStep => say(b"no such step\n"),
-        Wrong::StepMissing => say(b"a step is missing\n"),
-        Wrong::NumberMissing => say(b"a number is missing\n"),
-        Wrong::NoDecimal => say(b"a number is not in decimal digits\n"),
-        Wrong::NoHex => say(b"a set is not in hexadecimal digits\n"),
-        Wrong::TabletOver => say(b"tablet over 7\n"),
-        Wrong::NotesOver => say(b"own notes over ffff\n"),
-        Wrong::BoxesOver => say(b"a set of boxes over ffff\n"),
-        Wrong::SlotOver => say(b"slot over 127\n"),
-        Wrong::DeviceOver => say(b"device over 23\n"),
-        Wrong::Behind => say(b"something stands behind the step\n"),
-        Wrong::BehindFirst => say(b"something stands behind the first boxes\n"),
-        Wrong::NotFirst => say(b"the first boxes come first\n"),
-        Wrong::FirstAgain => say(b"the first boxes stand in an earlier line\n"),
+        Wrong::NoStep => say(rt, b"no such step\n"),
+        Wrong::StepMissing => say(rt, b"a step is missing\n"),
+        Wrong::NumberMissing => say(rt, b"a number is missing\n"),
+        Wrong::NoDecimal => say(rt, b"a number is not in decimal digits\n"),
+        Wrong::NoHex => say(rt, b"a set is not in hexadecimal digits\n"),
+        Wrong::TabletOver => say(rt, b"tablet over 7\n"),
+        Wrong::NotesOver => say(rt, b"own notes over ffff\n"),
+        Wrong::BoxesOver => say(rt, b"a set of boxes over ffff\n"),
+        Wrong::SlotOver => say(rt, b"slot over 127\n"),
+        Wrong::DeviceOver => say(rt, b"device over 23\n"),
+        Wrong::Behind => say(rt, b"something stands behind the step\n"),
+        Wrong::BehindFirst => say(rt, b"something stands behind the first boxes\n"),
+        Wrong::NotFirst => say(rt, b"the first boxes come first\n"),
+        Wrong::FirstAgain => say(rt, b"the first boxes stand in an earlier line\n"),
     }
 }
 
 // A bad line: its number, and what is wrong with it.
-pub(crate) fn say_line(line: u64, wrong: Wrong) {
-    say(b"line ");
-    io::print_decimal(STDERR_FILENO, line);
-    say(b": ");
-    say_wrong(wrong);
+pub(crate) fn say_line(rt: &impl Eprint, line: u64, wrong: Wrong) {
+    say(rt, b"line ");
+    let _ = rt.eprint(line);
+    say(rt, b": ");
+    say_wrong(rt, wrong);
 }
