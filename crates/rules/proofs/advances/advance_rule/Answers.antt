@@ -9,12 +9,12 @@ returns-then-h c = chosen _ _ c.if-h.true c.refuse_with.ensures
 
 pub returns-in_default : goal.returns-in_default
 unfolding advance
-returns-in_default c = passed _ _ c.if-h.false (advance-as _ _ c.enum_told-1.given.1 c.refuse_with-in_default.ensures)
+returns-in_default c = passed _ _ c.if-h.false (advance-as _ _ c.in_default.is c.refuse_with-in_default.ensures)
 
 pub returns-then-is_allowed : goal.returns-then-is_allowed
 unfolding advance
-returns-then-is_allowed c = passed _ _ c.if-h.false (advance-as _ _ c.phase-1.given.1 (chosen _ _ (sym c.is_allowed.ensures ∙ c.if-is_allowed.true) c.advance_from.ensures))
+returns-then-is_allowed c = passed _ _ c.if-h.false (advance-as _ _ c.in-Asks.is (chosen _ _ (sym c.is_allowed.ensures ∙ c.if-is_allowed.true) c.advance_from.ensures))
 
 pub returns : goal.returns
 unfolding advance
-returns c = passed _ _ c.if-h.false (advance-as _ _ c.phase-1.given.1 (passed _ _ (sym c.is_allowed.ensures ∙ c.if-is_allowed.false) c.refuse_with-2.ensures))
+returns c = passed _ _ c.if-h.false (advance-as _ _ c.in-Asks.is (passed _ _ (sym c.is_allowed.ensures ∙ c.if-is_allowed.false) c.refuse_with-2.ensures))

@@ -8,8 +8,8 @@ returns-then-h c = chosen _ _ c.if-h.true c.refuse_with.ensures
 
 pub returns-in-Idle : goal.returns-in-Idle
 unfolding ask
-returns-in-Idle c = passed _ _ c.if-h.false (ask-as _ _ _ _ c.enum_told-1.given.1 c.ask_pair.ensures)
+returns-in-Idle c = passed _ _ c.if-h.false (ask-as _ _ _ _ c.in-Idle.is c.ask_pair.ensures)
 
 pub returns-in-Asks : goal.returns-in-Asks
 unfolding ask
-returns-in-Asks c = passed _ _ c.if-h.false (ask-as _ _ _ _ c.enum_told-in-Asks-1.given.1 c.refuse_with-in-Asks.ensures)
+returns-in-Asks c = passed _ _ c.if-h.false (ask-as _ _ _ _ c.in-Asks.is c.refuse_with-in-Asks.ensures)

@@ -4,4 +4,4 @@ use Rattle.rules.proofs.deliveries.deliver_rule.Goals as goal
 
 pub returns-in-Empty : goal.returns-in-Empty
 unfolding deliver
-returns-in-Empty c = deliver-as _ c.enum_told-1.given.1 c.refuse_with.ensures
+returns-in-Empty c = deliver-as _ c.in-Empty.is c.refuse_with.ensures
