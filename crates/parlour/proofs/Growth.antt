@@ -78,7 +78,7 @@ module _ (listed : Listed) (mine theirs : Contents) where
 
 -- ---- Steps
 
-acts-grow : {known : Bool} {step : Step} {m : Message} {e : Effect} (h : Here) → Acts known h step m e → Grown e.listed h.contents e.contents
+acts-grow : {known : Bool} (h : Here) {step : Step} {m : Message} {e : Effect} → Acts known h step m e → Grown e.listed h.contents e.contents
 unfolding refuse
 acts-grow h (refused step m n b) = below-same _ _
 acts-grow h (asks tablet own pair m listed named l i r n) = above_mine listed h.contents _

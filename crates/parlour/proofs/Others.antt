@@ -49,7 +49,7 @@ record Leaves (step : Step) (m : Message) (slot d : ℕ) (h : Here) (e : Effect)
   frees : (e.frees ≡ false) ⊎ Frees step slot
   stops : (e.stops ≡ false) ⊎ Halts step m d
 
-acts-leave : {known : Bool} {step : Step} {m : Message} {e : Effect} (h : Here) (n slot d : ℕ) → proper_message n m ≡ true
+acts-leave : {known : Bool} (h : Here) {step : Step} {m : Message} {e : Effect} (n slot d : ℕ) → proper_message n m ≡ true
     → slot ≡ slot_named (row step).names → d ≡ device_named (row step).names m → Acts known h step m e → Leaves step m slot d h e
 unfolding refuse
 acts-leave h n slot d p s a (refused step m k b) = record { contents = inl refl; tablet = inl refl; frees = inl refl; stops = inl refl }
@@ -119,7 +119,7 @@ same-stay step r =
     }
 
 -- only a refusal has a refusal's outcome
-acts-refused : {known : Bool} {step : Step} {m : Message} {e : Effect} (n : ℕ) (h : Here) → Acts known h step m e → e.outcome ≡ Refused n
+acts-refused : {known : Bool} (n : ℕ) (h : Here) {step : Step} {m : Message} {e : Effect} → Acts known h step m e → e.outcome ≡ Refused n
     → e ≡ refuse n h
 unfolding refuse
 acts-refused n h (refused step m k b) q = let i : k ≡ n = cc in ap (λ (x : ℕ). refuse x h) i

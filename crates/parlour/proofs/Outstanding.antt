@@ -40,7 +40,7 @@ unfolding merged
 merged-apart listed mine theirs k h =
     (in-outside listed (join_configs mine.v.config theirs.v.config) (union mine.t theirs.t) k (has-digit k _ h)).2
 
-acts-apart : {known : Bool} {step : Step} {m : Message} {e : Effect} (h : Here) → Acts known h step m e → Apart h.listed h.contents
+acts-apart : {known : Bool} (h : Here) {step : Step} {m : Message} {e : Effect} → Acts known h step m e → Apart h.listed h.contents
     → Apart e.listed e.contents
 unfolding refuse
 acts-apart h (refused step m n b) a = a

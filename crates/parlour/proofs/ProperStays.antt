@@ -64,7 +64,7 @@ module _ (outcome : Outcome) (c : Contents) (x : Tablet) (frees stops : Bool) (s
         messages = messages;
       }
 
-acts-proper : {known : Bool} {step : Step} {m : Message} {e : Effect} (h : Here) → ProperHere h → proper_message h.listed.count m ≡ true
+acts-proper : {known : Bool} (h : Here) {step : Step} {m : Message} {e : Effect} → ProperHere h → proper_message h.listed.count m ≡ true
     → Acts known h step m e → ProperEffect h.listed.count e
 unfolding refuse
 acts-proper h p q (refused step m n b) = settled-proper _ _ _ _ _ _ h p p.contents p.tablet (λ d u i. refl)

@@ -38,7 +38,7 @@ marked-round l x = go (of_its_round l x)
     go true = refl
     go false = refl
 
-acts-move : {known : Bool} {step : Step} {m : Message} {e : Effect} (h : Here) (d : ℕ) → d ≡ device_of step m → Acts known h step m e
+acts-move : {known : Bool} (h : Here) {step : Step} {m : Message} {e : Effect} (d : ℕ) → d ≡ device_of step m → Acts known h step m e
     → RoundMoves step e.outcome (within 8 d) h.tablet.round e.tablet.round
 unfolding refuse
 acts-move h d a (refused step m n b) = inl refl

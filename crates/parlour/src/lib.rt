@@ -1,5 +1,6 @@
 // One step of a run at a time, and the question whether a box may be unplugged. Every call takes any state and any numbers.
 #![tactic(auto)]
+
 ghost use Rattle.std.specs.Prelude.{true, ◌≡◌, ◌<◌, ◌≤◌, ◌^◌};
 ghost use Rattle.sets.specs.Choice.{pick};
 ghost use Rattle.sets.specs.Sets.{has, union};

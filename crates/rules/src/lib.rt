@@ -1,5 +1,6 @@
 // The rules of the steps on the parts of the acting device; each gives an effect.
 #![tactic(auto)]
+
 ghost use Rattle.std.specs.Prelude.{◌≡◌};
 ghost use Rattle.rules.specs.Rules.{leaves, lose, again, stop, ruled, effect_of};
 

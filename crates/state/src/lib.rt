@@ -1,5 +1,6 @@
 // The state of one run: what it keeps, its start, and whether a state is one.
 #![tactic(auto)]
+
 ghost use Rattle.std.specs.Prelude.{◌≡◌, not, ◌<◌, ◌≤◌};
 ghost use Rattle.sets.specs.Bounded.{each};
 ghost use Rattle.books.specs.Books.{same_config};
