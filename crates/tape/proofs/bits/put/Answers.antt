@@ -49,5 +49,5 @@ returns c =
     let b = c in
     let k = c in
     let a = b.args in
-    put_is a.buf.now c.store.new.0 a.p a.w a.v k.blend-x.result b.requires.0 b.requires.1 b.requires.3
+    put_is a.buf.now c.store.new.buf a.p a.w a.v k.blend-x.result b.requires.0 b.requires.1 b.requires.3
     (filled a.buf.now a.p a.w a.v k.bytes_at.result k.blend-x.result b.requires.1 b.requires.2 k.bytes_at.ensures k.blend-x.ensures) c.store.ensures

@@ -35,6 +35,6 @@ loop-i-preserved c =
     let a = l.args in
     let k = c.chunk-k in (
       omega arith,
-      c.put.auto.0 ∙ l.loop-i.invariant.1,
+      c.put.auto.buf ∙ l.loop-i.invariant.1,
       c.put.ensures ∙ further a.buf.now a.p a.w a.x l.loop-i.buf l.loop-i.i k.result c.field.result l.requires.0 (omega arith) l.requires.1 l.loop-i.invariant.2 (c.field.ensures ∙ field-inside a.x l.loop-i.i k.result (omega arith)),
     )
