@@ -39,7 +39,7 @@ returns-in_default c =
     let r = c.read_step-r in
     let rest = read_from ed (suc (length t) - (l.n + 1)) t in
     c.last_number.ensures
-    ∙ last-is r.result l.n a.room rest c.in_default.keys2
+    ∙ last-is r.result l.n a.room rest c.in_default.not-Step
     ∙ ap (λ z. number_with a.room l.n (onward z rest)) r.ensures
     ∙ ap (number_with a.room l.n) (sym (read-from ed t l.p (suc (length t)) l.n (omega (arith, length-bits_of a.s.now))))
     ∙ sym l.invariant.2
