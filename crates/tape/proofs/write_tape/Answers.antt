@@ -1,4 +1,5 @@
 -- `write_tape` meets its contract: the measured bits say which refusal comes, and else the bits laid are the tape's.
+use borrow.Author.Rules.{rules}
 use native.Mathlib.Omega.{arith}
 use mathlib.Core.Path.{◌≡◌, sym, ap, ◌∙◌}
 use mathlib.Core.Logic.{◌≢◌}
@@ -104,8 +105,9 @@ returns-then-buf-size c =
 
 pub lay_tape-requires : goal.lay_tape-requires
 lay_tape-requires c =
-    let z = (planned (goal.at.lay_tape-requires c).After-bytes_for-size).fits c.if-size-gt4096.false in
-    (omega (arith, z.0, (counted (goal.at.lay_tape-requires c).In-Bits).1), omega (arith, z.1, c.if-buf-size.false))
+    let at = goal.at.lay_tape-requires c in
+    let z = (planned at.After-bytes_for-size).fits c.if-size-gt4096.false in
+    (omega (arith, z.0, (counted at.In-Bits).1), omega (arith, z.1, c.if-buf-size.false))
 
 pub returns : goal.returns
 returns c =
@@ -115,4 +117,4 @@ returns c =
     full a.first a.words.now a.buf.now c.lay_tape.new.buf (2 + c.bytes_for-size.result)
     (write-good a.first a.words.now c.if-first-eq0.false p.all (omega (arith, z.1, c.if-size-gt4096.false)))
     z.1 (omega (arith, z.1, c.if-buf-size.false))
-    (λ i. (c.slice_known-1.given i).fits) (λ i. (c.slice_known-2-1.given i).fits) c.lay_tape.auto.buf c.lay_tape.ensures
+    (search rules) (λ i. (c.type_inv.buf i).fits) c.lay_tape.auto.buf c.lay_tape.ensures

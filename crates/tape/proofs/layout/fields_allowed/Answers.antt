@@ -28,9 +28,10 @@ judged c b e =
 -- and so by the number in the field of that bound
 numbered : (c : After-field-number) → cond (leb c.in-Within.least c.field-number.result) (leb c.field-number.result c.in-Within.most) false ≡ rule (goal.at.After-field-number c).After-layout_of-l
 numbered c =
+    let at = goal.at.After-field-number c in
     let g = c.in-Within in
     ap (λ n. cond (leb g.least n) (leb n g.most) false) c.field-number.ensures
-    ∙ judged (goal.at.After-field-number c).After-layout_of-l (B.Within g.from g.width g.least g.most) g.is
+    ∙ judged at.After-layout_of-l (B.Within g.from g.width g.least g.most) g.is
 
 pub returns-in_default : goal.returns-in_default
 returns-in_default c = judged (goal.at.returns-in_default c).After-layout_of-l B.None c.in_default.is

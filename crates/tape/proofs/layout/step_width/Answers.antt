@@ -45,24 +45,28 @@ returns-then-w-eq0 c =
 
 pub returns-then-top-word : goal.returns-then-top-word
 returns-then-top-word c =
+    let at = goal.at.returns-then-top-word c in
     let a = c.args in
-    sym (wide_low (edition_of a.edition) a.word (some (goal.at.returns-then-top-word c).Else-w-eq0) (λ h. c.if-top-word.true (tops (goal.at.returns-then-top-word c).After-top ∙ h)))
+    sym (wide_low (edition_of a.edition) a.word (some at.Else-w-eq0) (λ h. c.if-top-word.true (tops at.After-top ∙ h)))
 
 pub fields_allowed-requires : goal.fields_allowed-requires
 fields_allowed-requires c =
-    let k = (found (goal.at.fields_allowed-requires c).After-layout_of-l).kind in
-    (k, λ h. some (goal.at.fields_allowed-requires c).Else-w-eq0 (ap (width (edition_of c.args.edition)) (sym k) ∙ h))
+    let at = goal.at.fields_allowed-requires c in
+    let k = (found at.After-layout_of-l).kind in
+    (k, λ h. some at.Else-w-eq0 (ap (width (edition_of c.args.edition)) (sym k) ∙ h))
 
 pub returns-then-fields_allowed : goal.returns-then-fields_allowed
 returns-then-fields_allowed c =
+    let at = goal.at.returns-then-fields_allowed c in
     let a = c.args in
     let ed = edition_of a.edition in
     let x = a.word in
-    let good = judged (goal.at.returns-then-fields_allowed c).After-fields_allowed ∙ c.if-fields_allowed.true in
-    (found (goal.at.returns-then-fields_allowed c).After-layout_of-l).wide
-    ∙ sym (wide_good ed x (some (goal.at.returns-then-fields_allowed c).Else-w-eq0) (step-unmarked a.edition (bits 64 x) 0 (num (take 3 (bits 64 x))) refl (some (goal.at.returns-then-fields_allowed c).Else-w-eq0) (room ed x (some (goal.at.returns-then-fields_allowed c).Else-w-eq0)) good) good (sym (tops (goal.at.returns-then-fields_allowed c).After-top) ∙ c.if-top-word.false))
+    let good = judged at.After-fields_allowed ∙ c.if-fields_allowed.true in
+    (found at.After-layout_of-l).wide
+    ∙ sym (wide_good ed x (some at.Else-w-eq0) (step-unmarked a.edition (bits 64 x) 0 (num (take 3 (bits 64 x))) refl (some at.Else-w-eq0) (room ed x (some at.Else-w-eq0)) good) good (sym (tops at.After-top) ∙ c.if-top-word.false))
 
 pub returns-else-fields_allowed : goal.returns-else-fields_allowed
 returns-else-fields_allowed c =
+    let at = goal.at.returns-else-fields_allowed c in
     let a = c.args in
-    sym (wide-bad (edition_of a.edition) a.word (some (goal.at.returns-else-fields_allowed c).Else-w-eq0) (judged (goal.at.returns-else-fields_allowed c).After-fields_allowed ∙ c.if-fields_allowed.false))
+    sym (wide-bad (edition_of a.edition) a.word (some at.Else-w-eq0) (judged at.After-fields_allowed ∙ c.if-fields_allowed.false))

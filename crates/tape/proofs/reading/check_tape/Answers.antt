@@ -31,8 +31,9 @@ slice_bounds-check_steps-start c = omega (arith, there (goal.at.slice_bounds-che
 
 pub check_steps-requires : goal.check_steps-requires
 check_steps-requires c =
+    let at = goal.at.check_steps-requires c in
     let s = c.args.tape.now in
-    (rw (part-from 2 s, length-drop) (omega (arith, (good (goal.at.check_steps-requires c).Else-bad-ne0).most)), rw (part-from 2 s, length-drop) (there (goal.at.check_steps-requires c).Else-bad-ne0).2)
+    (rw (part-from 2 s, length-drop) (omega (arith, (good at.Else-bad-ne0).most)), rw (part-from 2 s, length-drop) (there at.Else-bad-ne0).2)
 
 pub returns : goal.returns
 returns c =

@@ -39,13 +39,15 @@ returns-then-left-width c =
 
 pub returns-then-field-mark : goal.returns-then-field-mark
 returns-then-field-mark c =
+    let at = goal.at.returns-then-field-mark c in
     let a = c.args in
     let ed = edition_of a.edition in
-    sym (simp (mark-rest ed.mark a.x a.left ed.mark_most ed.mark_least (λ e. c.if-field-mark.true (behind (goal.at.returns-then-field-mark c).After-field ∙ e ∙ sym (rests (goal.at.returns-then-field-mark c).After-mark_of-mark)))))
+    sym (simp (mark-rest ed.mark a.x a.left ed.mark_most ed.mark_least (λ e. c.if-field-mark.true (behind at.After-field ∙ e ∙ sym (rests at.After-mark_of-mark)))))
 
 pub returns : goal.returns
 returns c =
+    let at = goal.at.returns c in
     let a = c.args in
     let ed = edition_of a.edition in
-    c.tail.ensures ∙ ap (λ n. end_at (take (a.left - n) (drop n (bits 64 a.x))) 0) (long (goal.at.returns c).After-mark_of-mark)
-    ∙ sym (simp (mark-is ed.mark a.x a.left ed.mark_most ed.mark_least (omega (arith, c.if-left-width.false, long (goal.at.returns c).After-mark_of-mark)) (sym c.requires ∙ c.if-kind-mark.false ∙ kinds (goal.at.returns c).After-mark_of-mark) (sym (behind (goal.at.returns c).After-field) ∙ c.if-field-mark.false ∙ rests (goal.at.returns c).After-mark_of-mark)))
+    c.tail.ensures ∙ ap (λ n. end_at (take (a.left - n) (drop n (bits 64 a.x))) 0) (long at.After-mark_of-mark)
+    ∙ sym (simp (mark-is ed.mark a.x a.left ed.mark_most ed.mark_least (omega (arith, c.if-left-width.false, long at.After-mark_of-mark)) (sym c.requires ∙ c.if-kind-mark.false ∙ kinds at.After-mark_of-mark) (sym (behind at.After-field) ∙ c.if-field-mark.false ∙ rests at.After-mark_of-mark)))

@@ -9,7 +9,7 @@ use lib.ListN.{length, take, drop, set, length-drop}
 use lib.Seq.{take_all, length-take-le}
 use Rattle.tape.specs.Bits.{bits_of}
 use Rattle.tape.specs.Edition.{Edition, edition_of}
-use Rattle.tape.specs.Reading.{read_at, Result, given, words_of, onward, read_from, read_steps}
+use Rattle.tape.specs.Reading.{read_at, Result, given, onward, read_from, read_steps}
 use Rattle.tape.specs.declared.reading.Reading.TheVariants.{Step}
 use Rattle.tape.proofs.ByteLaws.{length-bits_of}
 use Rattle.tape.proofs.ReadingLaws.{Moves, moves, read-from, more-is, none_left}

@@ -72,11 +72,12 @@ stepped : (c : Else-w-eq0) → begins (edition_of c.args.edition).mark (drop c.a
     → read_at (edition_of c.args.edition) (bits_of c.args.s.now) c.args.p
     ≡ step_at (edition_of c.args.edition) (bits_of c.args.s.now) c.args.p c.layout_of-l.result.width
 stepped c b =
+    let at = goal.at.Else-w-eq0 c in
     let a = c.args in
     let ed = edition_of a.edition in
     let t = bits_of a.s.now in
-    read-kind ed t a.p c.field-kind.result b (simp length-bits_of (search rules)) (kind (goal.at.Else-w-eq0 c).After-field-kind)
-    ∙ kind-step ed t a.p c.field-kind.result (some c) ∙ ap (step_at ed t a.p) (sym (wide (goal.at.Else-w-eq0 c).After-layout_of-l))
+    read-kind ed t a.p c.field-kind.result b (simp length-bits_of (search rules)) (kind at.After-field-kind)
+    ∙ kind-step ed t a.p c.field-kind.result (some c) ∙ ap (step_at ed t a.p) (sym (wide at.After-layout_of-l))
 
 words : (c : After-top-word) → Word c.args.s.now c.args.p c.layout_of-l.result.width c.top-word.result
 words c =
@@ -85,8 +86,9 @@ words c =
 
 judged : (c : After-fields_allowed) → legal (edition_of c.args.edition) (take c.layout_of-l.result.width (drop c.args.p (bits_of c.args.s.now))) ≡ c.fields_allowed.result
 judged c =
+    let at = goal.at.After-fields_allowed c in
     let ed = edition_of c.args.edition in
-    sym (c.fields_allowed.ensures ∙ ap (λ w. legal ed (take w (bits 64 c.top-word.result))) (sym (wide (goal.at.After-fields_allowed c).After-layout_of-l)) ∙ ap (legal ed) (words (goal.at.After-fields_allowed c).After-top-word).top)
+    sym (c.fields_allowed.ensures ∙ ap (λ w. legal ed (take w (bits 64 c.top-word.result))) (sym (wide at.After-layout_of-l)) ∙ ap (legal ed) (words at.After-top-word).top)
 
 pub returns-then-left-lt3 : goal.returns-then-left-lt3
 returns-then-left-lt3 c =
@@ -101,44 +103,49 @@ end_or-requires c = cut (goal.at.end_or-requires c).After-field-kind
 
 pub returns-then-w-eq0 : goal.returns-then-w-eq0
 returns-then-w-eq0 c =
+    let at = goal.at.returns-then-w-eq0 c in
     let a = c.args in
     let ed = edition_of a.edition in
     let t = bits_of a.s.now in
     c.end_or.ensures
-    ∙ no_step (goal.at.returns-then-w-eq0 c).After-ahead-x 14 (λ b. read-kind ed t a.p c.field-kind.result b (simp length-bits_of (search rules)) (kind (goal.at.returns-then-w-eq0 c).After-field-kind) ∙ kind-none ed t a.p c.field-kind.result (sym (wide (goal.at.returns-then-w-eq0 c).After-layout_of-l) ∙ c.if-w-eq0.true))
+    ∙ no_step at.After-ahead-x 14 (λ b. read-kind ed t a.p c.field-kind.result b (simp length-bits_of (search rules)) (kind at.After-field-kind) ∙ kind-none ed t a.p c.field-kind.result (sym (wide at.After-layout_of-l) ∙ c.if-w-eq0.true))
 
 pub end_or-requires-then-left-w : goal.end_or-requires-then-left-w
 end_or-requires-then-left-w c = cut (goal.at.end_or-requires-then-left-w c).After-field-kind
 
 pub returns-then-left-w : goal.returns-then-left-w
 returns-then-left-w c =
+    let at = goal.at.returns-then-left-w c in
     let a = c.args in
     c.end_or-then-left-w.ensures
-    ∙ no_step (goal.at.returns-then-left-w c).After-ahead-x 13 (λ b. stepped (goal.at.returns-then-left-w c).Else-w-eq0 b ∙ step-short (edition_of a.edition) (bits_of a.s.now) a.p c.layout_of-l.result.width (simp length-bits_of (search rules)))
+    ∙ no_step at.After-ahead-x 13 (λ b. stepped at.Else-w-eq0 b ∙ step-short (edition_of a.edition) (bits_of a.s.now) a.p c.layout_of-l.result.width (simp length-bits_of (search rules)))
 
 pub fields_allowed-requires : goal.fields_allowed-requires
 fields_allowed-requires c =
+    let at = goal.at.fields_allowed-requires c in
     let a = c.args in
     let w = c.layout_of-l.result.width in
-    (sym (kind (goal.at.fields_allowed-requires c).After-field-kind) ∙ ap num (sym (take-take 3 w (drop a.p (bits_of a.s.now)) (omega (arith, least (goal.at.fields_allowed-requires c).Else-w-eq0))) ∙ ap (take 3) (sym (words (goal.at.fields_allowed-requires c).After-top-word).top) ∙ take-take 3 w (bits 64 c.top-word.result) (omega (arith, least (goal.at.fields_allowed-requires c).Else-w-eq0))), some (goal.at.fields_allowed-requires c).Else-w-eq0)
+    (sym (kind at.After-field-kind) ∙ ap num (sym (take-take 3 w (drop a.p (bits_of a.s.now)) (omega (arith, least at.Else-w-eq0))) ∙ ap (take 3) (sym (words at.After-top-word).top) ∙ take-take 3 w (bits 64 c.top-word.result) (omega (arith, least at.Else-w-eq0))), some at.Else-w-eq0)
 
 pub returns-then-fields_allowed : goal.returns-then-fields_allowed
 returns-then-fields_allowed c =
+    let at = goal.at.returns-then-fields_allowed c in
     let a = c.args in
     let ed = edition_of a.edition in
     let t = bits_of a.s.now in
     let w = c.layout_of-l.result.width in
-    let good = judged (goal.at.returns-then-fields_allowed c).After-fields_allowed ∙ c.if-fields_allowed.true in
-    let b = step-unmarked a.edition t a.p c.field-kind.result (kind (goal.at.returns-then-fields_allowed c).After-field-kind) (some (goal.at.returns-then-fields_allowed c).Else-w-eq0) (simp length-bits_of (omega (arith, wide (goal.at.returns-then-fields_allowed c).After-layout_of-l, c.if-left-w.false)))
-    (ap (λ n. legal ed (take n (drop a.p t))) (sym (wide (goal.at.returns-then-fields_allowed c).After-layout_of-l)) ∙ good) in
-    ap (λ x. Step x (a.p + w)) (words (goal.at.returns-then-fields_allowed c).After-top-word).is
-    ∙ sym (stepped (goal.at.returns-then-fields_allowed c).Else-w-eq0 b ∙ step-good ed t a.p w (simp length-bits_of (search rules)) good)
+    let good = judged at.After-fields_allowed ∙ c.if-fields_allowed.true in
+    let b = step-unmarked a.edition t a.p c.field-kind.result (kind at.After-field-kind) (some at.Else-w-eq0) (simp length-bits_of (omega (arith, wide at.After-layout_of-l, c.if-left-w.false)))
+    (ap (λ n. legal ed (take n (drop a.p t))) (sym (wide at.After-layout_of-l)) ∙ good) in
+    ap (λ x. Step x (a.p + w)) (words at.After-top-word).is
+    ∙ sym (stepped at.Else-w-eq0 b ∙ step-good ed t a.p w (simp length-bits_of (search rules)) good)
 
 pub end_or-requires-2 : goal.end_or-requires-2
 end_or-requires-2 c = cut (goal.at.end_or-requires-2 c).After-field-kind
 
 pub returns : goal.returns
 returns c =
+    let at = goal.at.returns c in
     let a = c.args in
     c.end_or-2.ensures
-    ∙ no_step (goal.at.returns c).After-ahead-x 14 (λ b. stepped (goal.at.returns c).Else-w-eq0 b ∙ step-bad (edition_of a.edition) (bits_of a.s.now) a.p c.layout_of-l.result.width (simp length-bits_of (search rules)) (judged (goal.at.returns c).After-fields_allowed ∙ c.if-fields_allowed.false))
+    ∙ no_step at.After-ahead-x 14 (λ b. stepped at.Else-w-eq0 b ∙ step-bad (edition_of a.edition) (bits_of a.s.now) a.p c.layout_of-l.result.width (simp length-bits_of (search rules)) (judged at.After-fields_allowed ∙ c.if-fields_allowed.false))

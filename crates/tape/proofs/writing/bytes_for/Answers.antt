@@ -1,8 +1,6 @@
 -- `writing::bytes_for` meets its contract: the mark's width and where the steps begin, as the code has them, are the edition's.
-use mathlib.Core.Path.{◌≡◌, ap, ap₂}
+use mathlib.Core.Path.{ap, ap₂}
 use Prim.Native.Nat.{◌+◌, ◌/◌}
-use lib.ListN.{length}
-use Rattle.tape.specs.Edition.{edition_of}
 use Rattle.tape.specs.Writing.{bytes_for}
 use Rattle.tape.specs.declared.edition.Mark.{Mark}
 use Rattle.tape.proofs.writing.bytes_for.Goals as goal

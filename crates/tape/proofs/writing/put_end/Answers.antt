@@ -37,9 +37,10 @@ least c = ap (λ (m : Mark). m.width) c.mark_of-mark.ensures
 
 pub put-requires : goal.put-requires
 put-requires c =
+    let at = goal.at.put-requires c in
     let ed = edition_of c.args.edition in
-    let f = at-end (goal.at.put-requires c).After-mark_of-mark in
-    (omega (arith, least (goal.at.put-requires c).After-mark_of-mark, ed.mark_least), omega (arith, least (goal.at.put-requires c).After-mark_of-mark, ed.mark_most), f.small, omega (arith, f.long, c.requires.1), omega (arith, c.requires.0))
+    let f = at-end at.After-mark_of-mark in
+    (omega (arith, least at.After-mark_of-mark, ed.mark_least), omega (arith, least at.After-mark_of-mark, ed.mark_most), f.small, omega (arith, f.long, c.requires.1), omega (arith, c.requires.0))
 
 pub returns : goal.returns
 returns c =
