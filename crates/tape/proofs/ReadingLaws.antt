@@ -1,6 +1,6 @@
 -- The cases of the definitions of reading, one law for each; and that readings go on.
 use mathlib.Core.Path.{◌≡◌, refl, sym, ap, ◌∙◌}
-use mathlib.Core.Logic.{◌≢◌, ⊎_elim}
+use mathlib.Core.Logic.{◌≢◌}
 use Prim.Native.Nat.{ℕ, zero, suc, ◌+◌, ◌-◌, ◌≤◌, ◌<◌}
 use mathlib.Core.List.{List, [], ◌∷◌}
 use mathlib.Core.Bool.{Bool, true, false, cond}
@@ -10,8 +10,6 @@ use lib.ListN.{length, take, drop, length-drop, take-append-drop}
 use lib.Seq.{take-take, length-take-le}
 use lib.Dec.{leb, ltb, eqb}
 use borrow.Author.Tests.{le-leb, lt-leb, eq-eqb, ne_eqb, leb-true, eqb-false, eqb-true, ltb-true}
-use types.Run.{OneOf}
-use denote.Enum.Declared.{tag_of}
 use Rattle.tape.specs.Bits.{bit, num, bits, word, Ahead}
 use Rattle.tape.specs.Edition.{Edition, first_edition, edition_of}
 use Rattle.tape.specs.declared.edition.Edition.{Edition as InCode}
@@ -21,7 +19,6 @@ use Rattle.tape.specs.Reading.{step_at, kind_at, end_at, begins, end_or, read_at
 use Rattle.tape.specs.Promises.{number_with, number_at_end}
 use Rattle.tape.specs.declared.reading.Reading.{Reading}
 use Rattle.tape.specs.declared.reading.Reading.TheVariants.{Step, Refused, End}
-use Rattle.tape.specs.contracts.reading.Reading.{the_type}
 use Rattle.tape.proofs.LayoutLaws.{cond_has, width-least}
 use Rattle.tape.proofs.MarkLaws.{begins-is, begins-append, mark-ahead, end-ahead}
 
@@ -178,8 +175,8 @@ numbered-from ed (suc f) t p =
     go End h ih = tt
 
 -- the number at a reading that is no step
-pub last-is : (r : Reading) (m n : ℕ) (rest : ℕ → Result) → OneOf (1 ∷ 2 ∷ []) (tag_of the_type r) → number_at_end r m n ≡ number_with n m (onward r rest)
-last-is (Step x q) m n rest h = absurd (⊎_elim (λ (e : ◌≡◌ {A = ℕ} 0 1). omega arith) (λ (e : ◌≡◌ {A = ℕ} 0 2). omega arith) h)
+pub last-is : (r : Reading) (m n : ℕ) (rest : ℕ → Result) → ((x q : ℕ) → r ≢ Step x q) → number_at_end r m n ≡ number_with n m (onward r rest)
+last-is (Step x q) m n rest h = absurd (h x q refl)
 last-is (Refused k) m n rest h = refl
 last-is End m n rest h = ap (λ j. cond (leb j n) 0 16) (sym (add-zero m))
 
@@ -189,7 +186,7 @@ one_more n m x (given xs) = let e : m + suc (length xs) ≡ m + 1 + length xs = 
 one_more n m x (refused k) = refl
 
 -- at a reading that is no step nothing is left
-pub none_left : (r : Reading) (rest : ℕ → Result) (l : List ℕ) → OneOf (1 ∷ 2 ∷ []) (tag_of the_type r) → onward r rest ≡ given l → l ≡ []
-none_left (Step x q) rest l h e = absurd (⊎_elim (λ (e : ◌≡◌ {A = ℕ} 0 1). omega arith) (λ (e : ◌≡◌ {A = ℕ} 0 2). omega arith) h)
+pub none_left : (r : Reading) (rest : ℕ → Result) (l : List ℕ) → ((x q : ℕ) → r ≢ Step x q) → onward r rest ≡ given l → l ≡ []
+none_left (Step x q) rest l h e = absurd (h x q refl)
 none_left (Refused k) rest l h e = let z : ◌≡◌ {A = ℕ} 0 1 = cc in absurd (omega arith)
 none_left End rest l h e = cc

@@ -1,4 +1,4 @@
--- The round trip, both ways. In any edition: `read_tape` (a head and steps, once written, read back) and `tape-again` (an accepted tape
+-- The round trip, both ways. In any edition: `read_tape_lem` (a head and steps, once written, read back) and `tape-again` (an accepted tape
 -- is what its head and steps are written as). Of a tape as the calls take it: `read_written` and `written_again`.
 use mathlib.Core.Path.{◌≡◌, refl, sym, ap, ap₂, subst, ◌∙◌}
 use mathlib.Core.Logic.{◌≢◌}
@@ -152,8 +152,8 @@ module _ (ed : Edition) (head : List Bool) (xs : List ℕ) (long : length head �
   part-tape = sym (drop-bits_of 2 (tape_with ed head xs)) ∙ ap (drop 16) bits-tape ∙ drop-append-le 16 head (steps_part ed xs) (omega (arith, ed.boxes_inside))
 
   -- what is written in any edition reads back
-  pub read_tape : num (take 16 (drop ed.boxes_at head)) ≢ 0 → all_steps ed xs ≡ true → 2 + size ed xs ≤ 4096 → read_in ed (tape_with ed head xs) ≡ given xs
-  read_tape n a l =
+  pub read_tape_lem : num (take 16 (drop ed.boxes_at head)) ≢ 0 → all_steps ed xs ≡ true → 2 + size ed xs ≤ 4096 → read_in ed (tape_with ed head xs) ≡ given xs
+  read_tape_lem n a l =
       let t = tape_with ed head xs in
       let g : GoodHead ed t = record { least = rw length-tape (size-least ed xs); most = rw length-tape l; some = λ e. n (sym boxes-tape ∙ e) } in
       read-good ed t (head-zero ed t g) ∙ ap (read_steps ed) part-tape
@@ -198,7 +198,7 @@ read_written first xs tape h w = go (eqb first 0) refl (all_steps first_edition 
     go false e true f false g w =
         let q : tape_of first xs ≡ tape = cc in
         let b = first-boxes first h in (
-          ap read_tape (sym q) ∙ read_tape first_edition (bits 16 first) xs (length-bits 16 first) (λ z. eqb-false first 0 e (sym b ∙ z)) f (ltb-false 4096 (2 + size first_edition xs) g),
+          ap read_tape (sym q) ∙ read_tape_lem first_edition (bits 16 first) xs (length-bits 16 first) (λ z. eqb-false first 0 e (sym b ∙ z)) f (ltb-false 4096 (2 + size first_edition xs) g),
           ap first_boxes (sym q) ∙ boxes-tape first_edition (bits 16 first) xs (length-bits 16 first) ∙ b,
         )
 

@@ -4,7 +4,7 @@ use Rattle.sets.specs.Settles.{equation-settles}
 use Rattle.tape.specs.Statements.{Statements}
 use Rattle.tape.proofs.Settled.{read-settled, write-settled, check_reads}
 use Rattle.tape.proofs.StepWords.{word-by-fields, word-may-hold}
-use Rattle.tape.proofs.RoundTrip.{read_tape, tape-again, read_written, written_again}
+use Rattle.tape.proofs.RoundTrip.{read_tape_lem, tape-again, read_written, written_again}
 use Rattle.tape.proofs.CallsRoundTrip.{written-reads, read-writes}
 
 pub statements : Statements
@@ -23,7 +23,7 @@ statements =
       step_words = λ ed. record { settled_by_fields = word-by-fields ed; fields_may_hold = word-may-hold ed };
       any_edition =
           λ ed. record {
-            reads_back = λ head words long some all fits. read_tape ed head words long some all fits;
+            reads_back = λ head words long some all fits. read_tape_lem ed head words long some all fits;
             writes_back = λ tape words bytes e. (tape-again ed tape words bytes e).1;
           };
       round_trip =

@@ -1,3 +1,4 @@
+-- `fields_of` meets its contract: the layout says where each field of the kind stands.
 use native.Mathlib.Omega.{arith}
 use mathlib.Core.Path.{◌≡◌, refl, ap, ap₂, ◌∙◌}
 use Prim.Native.Nat.{ℕ, ◌+◌}
@@ -11,7 +12,6 @@ use Rattle.tape.proofs.WordLaws.{field_top}
 use Rattle.tape.proofs.LayoutLaws.{row-places, field-number}
 use Rattle.tape.proofs.fields_of.Goals as goal
 
--- `fields_of` meets its contract.
 make : ℕ → ℕ → ℕ → ℕ → ℕ → Fields
 make k a b c d = record { kind = k; first = a; second = b; third = c; fourth = d }
 

@@ -1,3 +1,4 @@
+-- `read_tape` meets its contract: a tape with the number 0 is an accepted one, and its steps fit the row.
 use native.Mathlib.Omega.{arith}
 use mathlib.Core.Path.{◌≡◌, sym, ap, ap₂, ◌∙◌}
 use Prim.Native.Nat.{ℕ, ◌-◌, ◌≤◌}
@@ -10,9 +11,9 @@ use Rattle.tape.specs.Promises.{answer}
 use Rattle.tape.proofs.LayLaws.{part-from}
 use Rattle.tape.proofs.PromiseLaws.{number-zero, success-kept}
 use Rattle.tape.proofs.TapeLaws.{head-given, head-good, part-reads, numbered-tape}
+use Rattle.tape.proofs.read_tape.Goals.{Else-number-ne0}
 use Rattle.tape.proofs.read_tape.Goals as goal
 
--- `read_tape` meets its contract.
 abbrev values : List ℕ → List ℕ → List ℕ
 values tape xs = first_boxes tape ∷ length xs ∷ []
 
@@ -24,7 +25,7 @@ record Accepted (s row : List ℕ) : Type 0 where
   most : length s ≤ 4096
   same : read_steps first_edition (bits_of (take (length s - 2) (drop 2 s))) ≡ read_tape s
 
-accepted : (c : tie.Else1) → Accepted c.args.tape.now c.args.row.now
+accepted : (c : Else-number-ne0) → Accepted c.args.tape.now c.args.row.now
 accepted c =
     let a = c.args in
     let s = a.tape.now in
@@ -34,26 +35,24 @@ accepted c =
     record { is = z.0; fits = z.1; least = g.least; most = g.most; same = part-reads first_edition s h }
 
 pub slice_bounds-fill_row-count : goal.slice_bounds-fill_row-count
-slice_bounds-fill_row-count c = omega (arith, (accepted c).least)
+slice_bounds-fill_row-count c = omega (arith, (accepted (goal.at.slice_bounds-fill_row-count c).Else-number-ne0).least)
 
 pub slice_bounds-fill_row-start : goal.slice_bounds-fill_row-start
-slice_bounds-fill_row-start c = omega (arith, (accepted c).least)
+slice_bounds-fill_row-start c = omega (arith, (accepted (goal.at.slice_bounds-fill_row-start c).Else-number-ne0).least)
 
 pub fill_row-steps-requires : goal.fill_row-steps-requires
 fill_row-steps-requires c =
-    let e = c in
-    let k = accepted e in
-    let s = e.args.tape.now in
+    let k = accepted (goal.at.fill_row-steps-requires c).Else-number-ne0 in
+    let s = c.args.tape.now in
     (rw (part-from 2 s, length-drop) (omega (arith, k.most)), omega arith, k.same ∙ k.is ∙ ap (λ o. given (words_of o)) (sym k.same), omega (arith, ap (λ o. length (words_of o)) k.same, k.fits))
 
 pub first_boxes-requires : goal.first_boxes-requires
-first_boxes-requires c = omega (arith, (accepted c).least)
+first_boxes-requires c = omega (arith, (accepted (goal.at.first_boxes-requires c).Else-number-ne0).least)
 
 pub returns : goal.returns
 returns c =
-    let e = c in
-    let k = accepted e in
-    let a = e.args in
+    let k = accepted (goal.at.returns c).Else-number-ne0 in
+    let a = c.args in
     let s = a.tape.now in
     let row = a.row.now in
     let f = c.fill_row-steps in

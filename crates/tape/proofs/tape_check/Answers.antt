@@ -1,3 +1,4 @@
+-- `tape_check` meets its contract: a tape has fewer steps than the room that it names.
 use mathlib.Core.Path.{◌∙◌}
 use Rattle.tape.specs.Edition.{first_edition}
 use Rattle.tape.specs.Reading.{read_tape}

@@ -1,3 +1,5 @@
+-- `write_tape` meets its contract: the measured bits say which refusal comes, and else the bits laid are the tape's.
+use borrow.Author.Rules.{rules}
 use native.Mathlib.Omega.{arith}
 use mathlib.Core.Path.{◌≡◌, sym, ap, ◌∙◌}
 use mathlib.Core.Logic.{◌≢◌}
@@ -15,9 +17,9 @@ use Rattle.tape.proofs.BitLaws.{length-bits}
 use Rattle.tape.proofs.LayLaws.{unlaid}
 use Rattle.tape.proofs.PromiseLaws.{number-refused, number_short, refusal-kept, success-kept}
 use Rattle.tape.proofs.WritingLaws.{length-tape, tape-bits, measured-is, measured-none, write-12, write-14, write-11, write-good, size-capped, size-over}
+use Rattle.tape.proofs.write_tape.Goals.{After-bytes_for-size, In-Bits}
 use Rattle.tape.proofs.write_tape.Goals as goal
 
--- `write_tape` meets its contract.
 abbrev length_of : List ℕ → List ℕ
 length_of bytes = length bytes ∷ []
 
@@ -56,14 +58,14 @@ record Planned (xs : List ℕ) (n r : ℕ) : Type 0 where
   over : 4096 < 2 + r → 4096 < 2 + size first_edition xs
   fits : 2 + r ≤ 4096 → (n ≡ length (body first_edition xs)) × (2 + r ≡ 2 + size first_edition xs)
 
-counted : (c : tie.After-known-told) → (all_steps first_edition c.args.words.now ≡ true) × (c.n-1.given.0.0 ≡ min (length (body first_edition c.args.words.now)) 40000)
-counted c = measured-is first_edition c.args.words.now c.n-1.given.0.0 (sym c.n-1.given.1 ∙ c.measure.ensures)
+counted : (c : In-Bits) → (all_steps first_edition c.args.words.now ≡ true) × (c.in-Bits.n ≡ min (length (body first_edition c.args.words.now)) 40000)
+counted c = measured-is first_edition c.args.words.now c.in-Bits.n (sym c.in-Bits.is ∙ c.measure.ensures)
 
-planned : (c : tie.After-bytes-for) → Planned c.args.words.now c.n-1.given.0.0 c.bytes_for-size.result
+planned : (c : After-bytes_for-size) → Planned c.args.words.now c.in-Bits.n c.bytes_for-size.result
 planned c =
-    let n = c.n-1.given.0.0 in
+    let n = c.in-Bits.n in
     let b = length (body first_edition c.args.words.now) in
-    let m = counted c in
+    let m = counted (goal.at.After-bytes_for-size c).In-Bits in
     let e = c.bytes_for-size.ensures in
     record {
       all = m.0;
@@ -78,46 +80,41 @@ returns-then-first-eq0 c =
 
 pub returns-in_default : goal.returns-in_default
 returns-in_default c =
-    let b = c in
-    let a = b.args in
-    turned a.first a.words.now a.buf.now 14 (λ z. omega arith) (write-14 a.first a.words.now c.if-first-eq0.false (measured-none first_edition a.words.now (sym c.enum_told-1.given.1 ∙ c.measure.ensures)))
+    let a = c.args in
+    turned a.first a.words.now a.buf.now 14 (λ z. omega arith) (write-14 a.first a.words.now c.if-first-eq0.false (measured-none first_edition a.words.now (sym c.in_default.is ∙ c.measure.ensures)))
 
 pub bytes_for-size-requires : goal.bytes_for-size-requires
-bytes_for-size-requires c = omega (arith, (counted c).1)
+bytes_for-size-requires c = omega (arith, (counted (goal.at.bytes_for-size-requires c).In-Bits).1)
 
 pub overflow_add-size : goal.overflow_add-size
 unfolding bytes_for
-overflow_add-size c = omega (arith, c.bytes_for-size.ensures, (counted c).1)
+overflow_add-size c = omega (arith, c.bytes_for-size.ensures, (counted (goal.at.overflow_add-size c).In-Bits).1)
 
 pub returns-then-size-gt4096 : goal.returns-then-size-gt4096
 returns-then-size-gt4096 c =
-    let k = c in
-    let a = k.args in
-    let p = planned k in
-    turned a.first a.words.now a.buf.now 11 (λ z. omega arith) (write-11 a.first a.words.now k.if-first-eq0.false p.all (p.over c.if-size-gt4096.true))
+    let a = c.args in
+    let p = planned (goal.at.returns-then-size-gt4096 c).After-bytes_for-size in
+    turned a.first a.words.now a.buf.now 11 (λ z. omega arith) (write-11 a.first a.words.now c.if-first-eq0.false p.all (p.over c.if-size-gt4096.true))
 
 pub returns-then-buf-size : goal.returns-then-buf-size
 returns-then-buf-size c =
-    let k = c in
-    let a = k.args in
-    let p = planned k in
+    let a = c.args in
+    let p = planned (goal.at.returns-then-buf-size c).After-bytes_for-size in
     let z = p.fits c.if-size-gt4096.false in
-    short a.first a.words.now a.buf.now (write-good a.first a.words.now k.if-first-eq0.false p.all (omega (arith, z.1, c.if-size-gt4096.false))) (omega (arith, z.1, c.if-buf-size.true))
+    short a.first a.words.now a.buf.now (write-good a.first a.words.now c.if-first-eq0.false p.all (omega (arith, z.1, c.if-size-gt4096.false))) (omega (arith, z.1, c.if-buf-size.true))
 
 pub lay_tape-requires : goal.lay_tape-requires
 lay_tape-requires c =
-    let k = c in
-    let z = (planned k).ranges c.if-size-gt4096.false in
-    (omega (arith, z.0, (counted k).1), omega (arith, z.1, c.if-buf-size.false))
+    let at = goal.at.lay_tape-requires c in
+    let z = (planned at.After-bytes_for-size).fits c.if-size-gt4096.false in
+    (omega (arith, z.0, (counted at.In-Bits).1), omega (arith, z.1, c.if-buf-size.false))
 
 pub returns : goal.returns
 returns c =
-    let e = c in
-    let k = e in
-    let a = k.args in
-    let p = planned k in
-    let z = p.fits e.if-size-gt4096.false in
-    full a.first a.words.now a.buf.now c.lay_tape.new.0 (2 + k.bytes_for-size.result)
-    (write-good a.first a.words.now k.if-first-eq0.false p.all (omega (arith, z.1, e.if-size-gt4096.false)))
+    let a = c.args in
+    let p = planned (goal.at.returns c).After-bytes_for-size in
+    let z = p.fits c.if-size-gt4096.false in
+    full a.first a.words.now a.buf.now c.lay_tape.new.buf (2 + c.bytes_for-size.result)
+    (write-good a.first a.words.now c.if-first-eq0.false p.all (omega (arith, z.1, c.if-size-gt4096.false)))
     z.1 (omega (arith, z.1, c.if-buf-size.false))
-    (λ i. (k.slice_known-1.given i).fits) (λ i. (c.slice_known-2-1.given i).fits) c.lay_tape.auto.0 c.lay_tape.ensures
+    (search rules) (λ i. (c.type_inv.buf i).fits) c.lay_tape.auto.buf c.lay_tape.ensures

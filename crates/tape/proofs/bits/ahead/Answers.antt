@@ -1,3 +1,4 @@
+-- `bits::ahead` meets its contract: the window of eight bytes, shifted, begins with the bits from p on.
 use Rattle.tape.proofs.ByteLaws.{ahead-is}
 use Rattle.tape.proofs.bits.ahead.Goals as goal
 

@@ -1,3 +1,4 @@
+-- `bits::blend` meets its contract: shifts and masks are quotients, products and remainders by powers of 2.
 use native.Mathlib.Omega.{arith}
 use mathlib.Core.Path.{◌≡◌, sym, ap₂, subst, ◌∙◌}
 use Prim.Native.Nat.{ℕ, ◌+◌, ◌-◌, ◌*◌, ◌/◌, ◌%◌, ◌^◌, ◌≤◌, ◌<◌}
@@ -8,7 +9,6 @@ use lib.Arith.{digits_lt}
 use Rattle.tape.proofs.Shifts.{masked, push}
 use Rattle.tape.proofs.bits.blend.Goals as goal
 
--- `bits::blend` meets its contract.
 blended : (old w sh v : ℕ) → w + sh ≤ 24 → v < 2 ^ w → old < 2 ^ 24
     → bit_or (bit_or (old / 2 ^ (w + sh) * 2 ^ w % 2 ^ 64) v * 2 ^ sh % 2 ^ 64) (bit_and old ((1 * 2 ^ sh) % 2 ^ 64 - 1)) ≡ (old / 2 ^ (w + sh) * 2 ^ w + v) * 2 ^ sh + old % 2 ^ sh
 blended old w sh v h hv ho =

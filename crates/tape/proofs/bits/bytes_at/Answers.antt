@@ -1,7 +1,8 @@
+-- `bits::bytes_at` meets its contract: each byte is joined to the bits before it.
 use borrow.Author.Rules.{rules}
 use native.Mathlib.Omega.{arith}
 use mathlib.Core.Path.{refl}
-use Prim.Native.Nat.{◌+◌, ◌-◌}
+use Prim.Native.Nat.{◌+◌}
 use Rattle.tape.specs.Bits.{num, window}
 use Rattle.tape.proofs.ByteLaws.{window-one, window-join}
 use Rattle.tape.proofs.bits.bytes_at.Goals as goal

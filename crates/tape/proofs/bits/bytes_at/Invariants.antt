@@ -1,9 +1,9 @@
+-- After k bytes the number is that of their bits, joined.
 use mathlib.Core.Path.{◌≡◌}
 use Prim.Native.Nat.{◌-◌, ◌≤◌}
 use Rattle.tape.specs.Bits.{num, window}
 use Rattle.tape.proofs.bits.bytes_at.Given as goal
 
--- `bits::bytes_at` meets its contract.
 abbrev pub invariant-loop-k : goal.invariant-loop-k
 invariant-loop-k l = (l.k ≤ l.n) × (l.x ≡ num (window l.k l.s l.i))
 

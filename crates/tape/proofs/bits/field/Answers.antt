@@ -1,9 +1,9 @@
+-- `bits::field` meets its contract: the two shifts cut the field from the word.
 use native.Mathlib.Omega.{arith}
 use mathlib.Core.Path.{sym}
 use Rattle.tape.proofs.WordLaws.{field-far, field-outside, field-none, field-shifted}
 use Rattle.tape.proofs.bits.field.Goals as goal
 
--- `bits::field` meets its contract.
 pub returns-then-from-ge64 : goal.returns-then-from-ge64
 returns-then-from-ge64 c = let a = c.args in sym (field-far a.word a.from a.width c.if-from-ge64.true)
 
@@ -15,5 +15,4 @@ returns-then-width-eq0 c = let a = c.args in sym (field-none a.word a.from a.wid
 
 pub returns : goal.returns
 returns c =
-    let b = c in
-    field-shifted b.args.word b.args.from b.args.width b.ranges.word.fits (omega arith)
+    field-shifted c.args.word c.args.from c.args.width c.ranges.word.fits (omega arith)

@@ -1,3 +1,4 @@
+-- `bits::put` meets its contract: the three bytes, read as one number of 24 bits, become the same bits with the field laid over them.
 use native.Mathlib.Omega.{arith}
 use mathlib.Core.Path.{◌≡◌, sym, ap, ap₂, subst, ◌∙◌}
 use Prim.Native.Nat.{ℕ, ◌+◌, ◌-◌, ◌*◌, ◌/◌, ◌%◌, ◌^◌, ◌≤◌, ◌<◌}
@@ -9,7 +10,6 @@ use Rattle.tape.proofs.ByteLaws.{length-window, num-window-lt}
 use Rattle.tape.proofs.LayLaws.{length-overlaid, num-overlaid, stored, stored-overlaid}
 use Rattle.tape.proofs.bits.put.Goals as goal
 
--- `bits::put` meets its contract.
 within : (s : List ℕ) (p w v : ℕ) → w ≤ 16 → p % 8 + length (bits w v) ≤ length (window 3 s (p / 8))
 within s p w v h = rw (length-bits, length-window) (omega arith)
 
@@ -33,21 +33,17 @@ put_is s after p w v x l h k e f = ap bits_of f ∙ stored-overlaid s p (bits w 
 
 pub blend-x-requires : goal.blend-x-requires
 blend-x-requires c =
-    let b = c in
-    (omega arith, b.requires.2, subst (λ (x : ℕ). x < 2 ^ 24) (sym c.bytes_at.ensures) (num-window-lt 3 b.args.buf.now (b.args.p / 8)))
+    (omega arith, c.requires.2, subst (λ (x : ℕ). x < 2 ^ 24) (sym c.bytes_at.ensures) (num-window-lt 3 c.args.buf.now (c.args.p / 8)))
 
 pub store-requires : goal.store-requires
-store-requires c =
-    let b = c in (
-      omega (arith, b.requires.0, b.requires.3),
-      subst (λ (x : ℕ). x < 2 ^ 24) (sym (filled b.args.buf.now b.args.p b.args.w b.args.v c.bytes_at.result c.blend-x.result b.requires.1 b.requires.2 c.bytes_at.ensures c.blend-x.ensures))
-          (num-24 b.args.buf.now b.args.p b.args.w b.args.v b.requires.1),
-    )
+store-requires c = (
+  omega (arith, c.requires.0, c.requires.3),
+  subst (λ (x : ℕ). x < 2 ^ 24) (sym (filled c.args.buf.now c.args.p c.args.w c.args.v c.bytes_at.result c.blend-x.result c.requires.1 c.requires.2 c.bytes_at.ensures c.blend-x.ensures))
+      (num-24 c.args.buf.now c.args.p c.args.w c.args.v c.requires.1),
+)
 
 pub returns : goal.returns
 returns c =
-    let b = c in
-    let k = c in
-    let a = b.args in
-    put_is a.buf.now c.store.new.0 a.p a.w a.v k.blend-x.result b.requires.0 b.requires.1 b.requires.3
-    (filled a.buf.now a.p a.w a.v k.bytes_at.result k.blend-x.result b.requires.1 b.requires.2 k.bytes_at.ensures k.blend-x.ensures) c.store.ensures
+    let a = c.args in
+    put_is a.buf.now c.store.new.buf a.p a.w a.v c.blend-x.result c.requires.0 c.requires.1 c.requires.3
+    (filled a.buf.now a.p a.w a.v c.bytes_at.result c.blend-x.result c.requires.1 c.requires.2 c.bytes_at.ensures c.blend-x.ensures) c.store.ensures

@@ -1,7 +1,8 @@
+-- `bits::put_word` meets its contract: fields laid one behind another are the word's bits laid as one.
 use borrow.Author.Rules.{rules}
 use native.Mathlib.Omega.{arith}
 use mathlib.Core.Path.{◌≡◌, refl, sym, ap, ap₂, ◌∙◌}
-use Prim.Native.Nat.{ℕ, ◌+◌, ◌-◌, ◌*◌, ◌≤◌}
+use Prim.Native.Nat.{ℕ, ◌+◌, ◌*◌, ◌≤◌}
 use mathlib.Core.List.{List}
 use lib.ListN.{length, take, drop, length-drop}
 use lib.Seq.{length-take-le, take-add}
@@ -12,7 +13,6 @@ use Rattle.tape.proofs.WordLaws.{field-inside, field_lt}
 use Rattle.tape.proofs.LayLaws.{overlaid-nil, overlaid-overlaid}
 use Rattle.tape.proofs.bits.put_word.Goals as goal
 
--- `bits::put_word` meets its contract.
 further : (s : List ℕ) (p w x : ℕ) (b : List ℕ) (i k c : ℕ) → w ≤ 64 → i + k ≤ w → p + w ≤ 8 * length s → bits_of b ≡ overlaid (bits_of s) p (take i (bits 64 x)) → c ≡ num (take k (drop i (bits 64 x)))
     → overlaid (bits_of b) (p + i) (bits k c) ≡ overlaid (bits_of s) p (take (i + k) (bits 64 x))
 further s p w x b i k c hw h hp e f =
@@ -31,10 +31,9 @@ put-requires c =
 
 pub loop-i-preserved : goal.loop-i-preserved
 loop-i-preserved c =
-    let l = c in
-    let a = l.args in
+    let a = c.args in
     let k = c.chunk-k in (
       omega arith,
-      c.put.auto.0 ∙ l.loop-i.invariant.1,
-      c.put.ensures ∙ further a.buf.now a.p a.w a.x l.loop-i.buf l.loop-i.i k.result c.field.result l.requires.0 (omega arith) l.requires.1 l.loop-i.invariant.2 (c.field.ensures ∙ field-inside a.x l.loop-i.i k.result (omega arith)),
+      c.put.auto.buf ∙ c.loop-i.invariant.1,
+      c.put.ensures ∙ further a.buf.now a.p a.w a.x c.loop-i.buf c.loop-i.i k.result c.field.result c.requires.0 (omega arith) c.requires.1 c.loop-i.invariant.2 (c.field.ensures ∙ field-inside a.x c.loop-i.i k.result (omega arith)),
     )

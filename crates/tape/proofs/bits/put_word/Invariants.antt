@@ -1,3 +1,4 @@
+-- After i bits the first i bits of the word lie over what was there from bit p on.
 use mathlib.Core.Path.{◌≡◌}
 use Prim.Native.Nat.{◌-◌, ◌≤◌}
 use lib.ListN.{length, take}

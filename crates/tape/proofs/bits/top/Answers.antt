@@ -1,3 +1,4 @@
+-- `bits::top` meets its contract: shifted down and up again, a word keeps its first bits alone.
 use Rattle.tape.proofs.WordLaws.{word-top}
 use Rattle.tape.proofs.bits.top.Goals as goal
 

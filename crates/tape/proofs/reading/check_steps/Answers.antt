@@ -1,3 +1,4 @@
+-- `reading::check_steps` meets its contract: the number that the whole part gives is the one that the rest of it gives after n steps.
 use borrow.Author.Rules.{rules}
 use native.Mathlib.Omega.{arith}
 use mathlib.Core.Path.{sym, ap, subst, ◌∙◌}
@@ -11,23 +12,23 @@ use Rattle.tape.specs.Promises.{number_with}
 use Rattle.tape.specs.declared.reading.Reading.TheVariants.{Step}
 use Rattle.tape.proofs.ByteLaws.{length-bits_of}
 use Rattle.tape.proofs.ReadingLaws.{Moves, moves, read-from, last-is, one_more}
+use Rattle.tape.proofs.reading.check_steps.Goals.{In-Step}
 use Rattle.tape.proofs.reading.check_steps.Goals as goal
 
 -- where the next reading is
-moved : (c : tie.After-known-told invariant-loop decreases-loop) → Moves (bits_of c.args.s.now) c.loop-next.p
-    (Step c.r-1.given.0.0 c.r-1.given.0.1.0)
+moved : (c : In-Step) → Moves (bits_of c.args.s.now) c.loop-next.p
+    (Step c.in-Step.field-0 c.in-Step.next)
 moved c =
     let t = bits_of c.args.s.now in
     let l = c.loop-next in
-    subst (λ z. Moves t l.p z) (sym c.read_step-r.ensures ∙ c.r-1.given.1) (moves (edition_of c.args.edition) t l.p)
+    subst (λ z. Moves t l.p z) (sym c.read_step-r.ensures ∙ c.in-Step.is) (moves (edition_of c.args.edition) t l.p)
 
 pub loop-next-init : goal.loop-next-init
 unfolding read_steps
 loop-next-init c =
-    let b = c in
-    let e = c.start_of_lem.ensures in
-    let t = bits_of b.args.s.now in
-    (omega (arith, e, b.requires.1), search rules, rw sub-zero (ap (λ q. number_with b.args.room 0 (read_from (edition_of b.args.edition) (suc (length t)) t q)) (sym e)))
+    let e = c.start_of-p.ensures in
+    let t = bits_of c.args.s.now in
+    (omega (arith, e, c.requires.1), search rules, rw sub-zero (ap (λ q. number_with c.args.room 0 (read_from (edition_of c.args.edition) (suc (length t)) t q)) (sym e)))
 
 pub returns-in_default : goal.returns-in_default
 returns-in_default c =
@@ -38,14 +39,14 @@ returns-in_default c =
     let r = c.read_step-r in
     let rest = read_from ed (suc (length t) - (l.n + 1)) t in
     c.last_number.ensures
-    ∙ last-is r.result l.n a.room rest c.in_default.keys2
+    ∙ last-is r.result l.n a.room rest c.in_default.not-Step
     ∙ ap (λ z. number_with a.room l.n (onward z rest)) r.ensures
     ∙ ap (number_with a.room l.n) (sym (read-from ed t l.p (suc (length t)) l.n (omega (arith, length-bits_of a.s.now))))
     ∙ sym l.invariant.2
 
 pub loop-next-smaller : goal.loop-next-smaller
 loop-next-smaller c =
-    let m = moved c in
+    let m = moved (goal.at.loop-next-smaller c).In-Step in
     let k = length-bits_of c.args.s.now in
     omega arith
 
@@ -55,14 +56,13 @@ loop-next-preserved c =
     let ed = edition_of a.edition in
     let t = bits_of a.s.now in
     let l = c.loop-next in
-    let m = moved c in
+    let m = moved (goal.at.loop-next-preserved c).In-Step in
     let k = length-bits_of a.s.now in
-    let q = c.r-1.given.0 in
     let rest = read_from ed (suc (length t) - (l.n + 1)) t in (
       omega arith,
       omega arith,
       l.invariant.2
           ∙ ap (number_with a.room l.n) (read-from ed t l.p (suc (length t)) l.n (omega arith)
-          ∙ ap (λ z. onward z rest) (sym c.read_step-r.ensures ∙ c.r-1.given.1))
-          ∙ one_more a.room l.n q.0 (rest q.1.0),
+          ∙ ap (λ z. onward z rest) (sym c.read_step-r.ensures ∙ c.in-Step.is))
+          ∙ one_more a.room l.n c.in-Step.field-0 (rest c.in-Step.next),
     )

@@ -1,3 +1,4 @@
+-- After n readings the number of the whole part is the one that the rest of it gives, from bit p on.
 use mathlib.Core.Path.{◌≡◌}
 use Prim.Native.Nat.{suc, ◌-◌, ◌*◌, ◌≤◌}
 use lib.ListN.{length}
@@ -7,7 +8,6 @@ use Rattle.tape.specs.Reading.{read_from, read_steps}
 use Rattle.tape.specs.Promises.{number_with}
 use Rattle.tape.proofs.reading.check_steps.Given as goal
 
--- `reading::check_steps` meets its contract.
 abbrev pub invariant-loop-next : goal.invariant-loop-next
 invariant-loop-next l =
     (l.p ≤ 8 * length l.s) × (l.n ≤ l.p) × (number_with l.room 0 (read_steps (edition_of l.edition) (bits_of l.s)) ≡ number_with l.room l.n (read_from (edition_of l.edition) (suc (length (bits_of l.s)) - l.n) (bits_of l.s) l.p))

@@ -1,3 +1,4 @@
+-- `reading::first_boxes` meets its contract: the field that is cut from the eight bytes is the set of first boxes.
 use native.Mathlib.Omega.{arith}
 use mathlib.Core.Path.{◌≡◌, ap, ◌∙◌}
 use Prim.Native.Nat.{ℕ, ◌*◌, ◌/◌, ◌%◌, ◌≤◌}
@@ -12,7 +13,6 @@ use Rattle.tape.proofs.ByteLaws.{length-window, window-field}
 use Rattle.tape.proofs.WordLaws.{field-inside, field_lt}
 use Rattle.tape.proofs.reading.first_boxes.Goals as goal
 
--- `reading::first_boxes` meets its contract.
 -- the 16 bits where the set begins
 boxes : (ed : Edition) (s : List ℕ) (h : Head) (x n : ℕ) → ed.head ≤ 8 * length s → h ≡ head_in ed → x ≡ num (window 8 s (h.boxes / 8)) → n ≡ field_at x (h.boxes % 8) 16 → n ≡ boxes_in ed s
 unfolding boxes_in
@@ -30,6 +30,5 @@ overflow_cast-result c =
 
 pub returns : goal.returns
 returns c =
-    let b = c in
     let h = c.head_of-head in
-    boxes (edition_of b.args.edition) b.args.tape.now h.result c.bytes_at.result c.field.result b.requires h.ensures c.bytes_at.ensures c.field.ensures
+    boxes (edition_of c.args.edition) c.args.tape.now h.result c.bytes_at.result c.field.result c.requires h.ensures c.bytes_at.ensures c.field.ensures

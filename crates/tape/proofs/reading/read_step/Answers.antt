@@ -1,3 +1,4 @@
+-- `reading::read_step` meets its contract: where the bits at p are no end mark, the step of their kind is read, by the laws on `read_at`.
 use borrow.Author.Rules.{rules}
 use native.Mathlib.Omega.{arith}
 use mathlib.Core.Path.{◌≡◌, sym, ap, ◌∙◌}
@@ -18,9 +19,9 @@ use Rattle.tape.proofs.WordLaws.{field_top, take-word}
 use Rattle.tape.proofs.LayoutLaws.{width-most, width-least}
 use Rattle.tape.proofs.MarkLaws.{begins-short}
 use Rattle.tape.proofs.ReadingLaws.{end-or, step-unmarked, read_short, read-kind, kind-step, kind-none, step-short, step-good, step-bad}
+use Rattle.tape.proofs.reading.read_step.Goals.{After-ahead-x, After-field-kind, After-fields_allowed, After-layout_of-l, After-top-word, Else-w-eq0}
 use Rattle.tape.proofs.reading.read_step.Goals as goal
 
--- `reading::read_step` meets its contract.
 -- the kind, as the code cuts it from the bits ahead
 kind-is : (s : List ℕ) (p x k : ℕ) → p + 3 ≤ 8 * length s → Ahead (bits_of s) p x → k ≡ field_at x 0 3 → num (take 3 (drop p (bits_of s))) ≡ k
 kind-is s p x k h a e = sym (e ∙ field_top x 3 (omega arith) ∙ ap num (a 3 (omega arith) (rw length-bits_of h)))
@@ -37,61 +38,57 @@ word_at s p w x y h l a e =
     record { is = i; top = ap (λ z. take w (bits 64 z)) i ∙ take-word f w (length-take-le w (drop p (bits_of s)) (simp (length-drop, length-bits_of) (omega arith))) (omega arith) }
 
 -- the end or a refusal, where reading comes to that refusal without the end mark
-no_step : (c : tie.After-ahead) (number : ℕ)
+no_step : (c : After-ahead-x) (number : ℕ)
     → (begins (edition_of c.args.edition).mark (drop c.args.p (bits_of c.args.s.now)) ≡ false → read_at (edition_of c.args.edition) (bits_of c.args.s.now) c.args.p ≡ Refused number)
     → end_or (edition_of c.args.edition) c.ahead-x.result (8 * length c.args.s.now - c.args.p) number
     ≡ read_at (edition_of c.args.edition) (bits_of c.args.s.now) c.args.p
 no_step c number h =
-    let b = c in
-    let a = b.args in
+    let a = c.args in
     let s = a.s.now in
-    end-or (edition_of a.edition) (bits_of s) a.p c.ahead-x.result (8 * length s - a.p) c.ahead-x.ensures (rw length-bits_of b.requires.0) (ap (λ n. n - a.p) (sym (length-bits_of s))) number h
+    end-or (edition_of a.edition) (bits_of s) a.p c.ahead-x.result (8 * length s - a.p) c.ahead-x.ensures (rw length-bits_of c.requires.0) (ap (λ n. n - a.p) (sym (length-bits_of s))) number h
 
-kind : (c : tie.After-field) → num (take 3 (drop c.args.p (bits_of c.args.s.now))) ≡ c.field-kind.result
+kind : (c : After-field-kind) → num (take 3 (drop c.args.p (bits_of c.args.s.now))) ≡ c.field-kind.result
 kind c =
-    let x = c in
-    let a = x.args in
-    kind-is a.s.now a.p x.ahead-x.result c.field-kind.result (search rules) x.ahead-x.ensures c.field-kind.ensures
+    let a = c.args in
+    kind-is a.s.now a.p c.ahead-x.result c.field-kind.result (search rules) c.ahead-x.ensures c.field-kind.ensures
 
-cut : (c : tie.After-field) → c.field-kind.result ≡ num (take 3 (bits 64 c.ahead-x.result))
+cut : (c : After-field-kind) → c.field-kind.result ≡ num (take 3 (bits 64 c.ahead-x.result))
 cut c = c.field-kind.ensures ∙ field_top c.ahead-x.result 3 (omega arith)
 
-wide : (c : tie.After-layout-of) → c.layout_of-l.result.width ≡ width (edition_of c.args.edition) c.field-kind.result
+wide : (c : After-layout_of-l) → c.layout_of-l.result.width ≡ width (edition_of c.args.edition) c.field-kind.result
 wide c = ap (λ (r : Layout). r.width) c.layout_of-l.ensures
 
-some : (c : tie.Else2) → width (edition_of c.args.edition) c.field-kind.result ≢ 0
-some c e = c.if-w-eq0.false (wide c ∙ e)
+some : (c : Else-w-eq0) → width (edition_of c.args.edition) c.field-kind.result ≢ 0
+some c e = c.if-w-eq0.false (wide (goal.at.Else-w-eq0 c).After-layout_of-l ∙ e)
 
-least : (c : tie.Else2) → 6 ≤ c.layout_of-l.result.width
-least c = omega (arith, wide c, width-least (edition_of c.args.edition) c.field-kind.result (some c))
+least : (c : Else-w-eq0) → 6 ≤ c.layout_of-l.result.width
+least c = omega (arith, wide (goal.at.Else-w-eq0 c).After-layout_of-l, width-least (edition_of c.args.edition) c.field-kind.result (some c))
 
-most : (c : tie.Else2) → c.layout_of-l.result.width ≤ 54
-most c = omega (arith, wide c, width-most (edition_of c.args.edition) c.field-kind.result)
+most : (c : Else-w-eq0) → c.layout_of-l.result.width ≤ 54
+most c = omega (arith, wide (goal.at.Else-w-eq0 c).After-layout_of-l, width-most (edition_of c.args.edition) c.field-kind.result)
 
 -- without the end mark the step of that kind is read
-stepped : (c : tie.Else2) → begins (edition_of c.args.edition).mark (drop c.args.p (bits_of c.args.s.now)) ≡ false
+stepped : (c : Else-w-eq0) → begins (edition_of c.args.edition).mark (drop c.args.p (bits_of c.args.s.now)) ≡ false
     → read_at (edition_of c.args.edition) (bits_of c.args.s.now) c.args.p
     ≡ step_at (edition_of c.args.edition) (bits_of c.args.s.now) c.args.p c.layout_of-l.result.width
 stepped c b =
-    let g = c in
-    let a = g.args in
+    let at = goal.at.Else-w-eq0 c in
+    let a = c.args in
     let ed = edition_of a.edition in
     let t = bits_of a.s.now in
-    read-kind ed t a.p g.field-kind.result b (simp length-bits_of (search rules)) (kind g)
-    ∙ kind-step ed t a.p g.field-kind.result (some c) ∙ ap (step_at ed t a.p) (sym (wide c))
+    read-kind ed t a.p c.field-kind.result b (simp length-bits_of (search rules)) (kind at.After-field-kind)
+    ∙ kind-step ed t a.p c.field-kind.result (some c) ∙ ap (step_at ed t a.p) (sym (wide at.After-layout_of-l))
 
-words : (c : tie.After-top) → Word c.args.s.now c.args.p c.layout_of-l.result.width c.top-word.result
+words : (c : After-top-word) → Word c.args.s.now c.args.p c.layout_of-l.result.width c.top-word.result
 words c =
-    let e = c in
-    let x = e in
-    let a = x.args in
-    word_at a.s.now a.p e.layout_of-l.result.width x.ahead-x.result c.top-word.result (most e) (search rules) x.ahead-x.ensures c.top-word.ensures
+    let a = c.args in
+    word_at a.s.now a.p c.layout_of-l.result.width c.ahead-x.result c.top-word.result (most (goal.at.After-top-word c).Else-w-eq0) (search rules) c.ahead-x.ensures c.top-word.ensures
 
-judged : (c : tie.After-fields-allowed) → legal (edition_of c.args.edition) (take c.layout_of-l.result.width (drop c.args.p (bits_of c.args.s.now))) ≡ c.fields_allowed.result
+judged : (c : After-fields_allowed) → legal (edition_of c.args.edition) (take c.layout_of-l.result.width (drop c.args.p (bits_of c.args.s.now))) ≡ c.fields_allowed.result
 judged c =
-    let l = c in
-    let ed = edition_of l.args.edition in
-    sym (c.fields_allowed.ensures ∙ ap (λ w. legal ed (take w (bits 64 c.top-word.result))) (sym (wide l)) ∙ ap (legal ed) (words c).top)
+    let at = goal.at.After-fields_allowed c in
+    let ed = edition_of c.args.edition in
+    sym (c.fields_allowed.ensures ∙ ap (λ w. legal ed (take w (bits 64 c.top-word.result))) (sym (wide at.After-layout_of-l)) ∙ ap (legal ed) (words at.After-top-word).top)
 
 pub returns-then-left-lt3 : goal.returns-then-left-lt3
 returns-then-left-lt3 c =
@@ -102,60 +99,53 @@ returns-then-left-lt3 c =
     sym (read_short ed t a.p (begins-short ed.mark (drop a.p t) (rw length-drop (omega (arith, ed.mark_least)))) few)
 
 pub end_or-requires : goal.end_or-requires
-end_or-requires c = cut c
+end_or-requires c = cut (goal.at.end_or-requires c).After-field-kind
 
 pub returns-then-w-eq0 : goal.returns-then-w-eq0
 returns-then-w-eq0 c =
-    let l = c in
-    let g = l in
-    let x = g in
-    let a = x.args in
+    let at = goal.at.returns-then-w-eq0 c in
+    let a = c.args in
     let ed = edition_of a.edition in
     let t = bits_of a.s.now in
     c.end_or.ensures
-    ∙ no_step x 14 (λ b. read-kind ed t a.p g.field-kind.result b (simp length-bits_of (search rules)) (kind g) ∙ kind-none ed t a.p g.field-kind.result (sym (wide l) ∙ c.if-w-eq0.true))
+    ∙ no_step at.After-ahead-x 14 (λ b. read-kind ed t a.p c.field-kind.result b (simp length-bits_of (search rules)) (kind at.After-field-kind) ∙ kind-none ed t a.p c.field-kind.result (sym (wide at.After-layout_of-l) ∙ c.if-w-eq0.true))
 
 pub end_or-requires-then-left-w : goal.end_or-requires-then-left-w
-end_or-requires-then-left-w c = cut c
+end_or-requires-then-left-w c = cut (goal.at.end_or-requires-then-left-w c).After-field-kind
 
 pub returns-then-left-w : goal.returns-then-left-w
 returns-then-left-w c =
-    let e = c in
-    let x = e in
-    let a = x.args in
+    let at = goal.at.returns-then-left-w c in
+    let a = c.args in
     c.end_or-then-left-w.ensures
-    ∙ no_step x 13 (λ b. stepped e b ∙ step-short (edition_of a.edition) (bits_of a.s.now) a.p e.layout_of-l.result.width (simp length-bits_of (search rules)))
+    ∙ no_step at.After-ahead-x 13 (λ b. stepped at.Else-w-eq0 b ∙ step-short (edition_of a.edition) (bits_of a.s.now) a.p c.layout_of-l.result.width (simp length-bits_of (search rules)))
 
 pub fields_allowed-requires : goal.fields_allowed-requires
 fields_allowed-requires c =
-    let e = c in
-    let g = e in
-    let a = g.args in
-    let w = e.layout_of-l.result.width in
-    (sym (kind g) ∙ ap num (sym (take-take 3 w (drop a.p (bits_of a.s.now)) (omega (arith, least e))) ∙ ap (take 3) (sym (words c).top) ∙ take-take 3 w (bits 64 c.top-word.result) (omega (arith, least e))), some e)
+    let at = goal.at.fields_allowed-requires c in
+    let a = c.args in
+    let w = c.layout_of-l.result.width in
+    (sym (kind at.After-field-kind) ∙ ap num (sym (take-take 3 w (drop a.p (bits_of a.s.now)) (omega (arith, least at.Else-w-eq0))) ∙ ap (take 3) (sym (words at.After-top-word).top) ∙ take-take 3 w (bits 64 c.top-word.result) (omega (arith, least at.Else-w-eq0))), some at.Else-w-eq0)
 
 pub returns-then-fields_allowed : goal.returns-then-fields_allowed
 returns-then-fields_allowed c =
-    let e = c in
-    let g = e in
-    let a = g.args in
+    let at = goal.at.returns-then-fields_allowed c in
+    let a = c.args in
     let ed = edition_of a.edition in
     let t = bits_of a.s.now in
-    let w = e.layout_of-l.result.width in
-    let good = judged c ∙ c.if-fields_allowed.true in
-    let b = step-unmarked a.edition t a.p g.field-kind.result (kind g) (some e) (simp length-bits_of (omega (arith, wide e, c.if-left-w.false)))
-    (ap (λ n. legal ed (take n (drop a.p t))) (sym (wide e)) ∙ good) in
-    ap (λ x. Step x (a.p + w)) (words c).is
-    ∙ sym (stepped e b ∙ step-good ed t a.p w (simp length-bits_of (search rules)) good)
+    let w = c.layout_of-l.result.width in
+    let good = judged at.After-fields_allowed ∙ c.if-fields_allowed.true in
+    let b = step-unmarked a.edition t a.p c.field-kind.result (kind at.After-field-kind) (some at.Else-w-eq0) (simp length-bits_of (omega (arith, wide at.After-layout_of-l, c.if-left-w.false)))
+    (ap (λ n. legal ed (take n (drop a.p t))) (sym (wide at.After-layout_of-l)) ∙ good) in
+    ap (λ x. Step x (a.p + w)) (words at.After-top-word).is
+    ∙ sym (stepped at.Else-w-eq0 b ∙ step-good ed t a.p w (simp length-bits_of (search rules)) good)
 
 pub end_or-requires-2 : goal.end_or-requires-2
-end_or-requires-2 c = cut c
+end_or-requires-2 c = cut (goal.at.end_or-requires-2 c).After-field-kind
 
 pub returns : goal.returns
 returns c =
-    let f = c in
-    let e = f in
-    let x = e in
-    let a = x.args in
+    let at = goal.at.returns c in
+    let a = c.args in
     c.end_or-2.ensures
-    ∙ no_step x 14 (λ b. stepped e b ∙ step-bad (edition_of a.edition) (bits_of a.s.now) a.p e.layout_of-l.result.width (simp length-bits_of (search rules)) (judged f ∙ c.if-fields_allowed.false))
+    ∙ no_step at.After-ahead-x 14 (λ b. stepped at.Else-w-eq0 b ∙ step-bad (edition_of a.edition) (bits_of a.s.now) a.p c.layout_of-l.result.width (simp length-bits_of (search rules)) (judged at.After-fields_allowed ∙ c.if-fields_allowed.false))

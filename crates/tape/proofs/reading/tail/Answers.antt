@@ -1,3 +1,4 @@
+-- `reading::tail` meets its contract: the bits behind the end mark are fewer than a byte, and are tested as a field.
 use native.Mathlib.Omega.{arith}
 use mathlib.Core.Path.{sym, ◌∙◌}
 use lib.ListN.{take, drop, length-take, length-drop}
@@ -7,7 +8,6 @@ use Rattle.tape.proofs.WordLaws.{field-inside}
 use Rattle.tape.proofs.MarkLaws.{end-long, end-set, end-good}
 use Rattle.tape.proofs.reading.tail.Goals as goal
 
--- `reading::tail` meets its contract.
 pub returns-then-left-ge8 : goal.returns-then-left-ge8
 returns-then-left-ge8 c =
     let a = c.args in
@@ -15,13 +15,11 @@ returns-then-left-ge8 c =
 
 pub returns-then-field-eq0 : goal.returns-then-field-eq0
 returns-then-field-eq0 c =
-    let b = c in
-    let a = b.args in
+    let a = c.args in
     sym (end-good (take a.left (drop a.mark (bits 64 a.x))) 0 (simp (length-take, length-drop, length-bits) (omega arith))
-    (sym (field-inside a.x a.mark a.left (omega (arith, b.requires))) ∙ sym c.field.ensures ∙ c.if-field-eq0.true))
+    (sym (field-inside a.x a.mark a.left (omega (arith, c.requires))) ∙ sym c.field.ensures ∙ c.if-field-eq0.true))
 
 pub returns-else-field-eq0 : goal.returns-else-field-eq0
 returns-else-field-eq0 c =
-    let b = c in
-    let a = b.args in
-    sym (end-set (take a.left (drop a.mark (bits 64 a.x))) 0 (λ e. c.if-field-eq0.false (c.field.ensures ∙ field-inside a.x a.mark a.left (omega (arith, b.requires)) ∙ e)))
+    let a = c.args in
+    sym (end-set (take a.left (drop a.mark (bits 64 a.x))) 0 (λ e. c.if-field-eq0.false (c.field.ensures ∙ field-inside a.x a.mark a.left (omega (arith, c.requires)) ∙ e)))

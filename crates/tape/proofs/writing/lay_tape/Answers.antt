@@ -1,3 +1,4 @@
+-- `writing::lay_tape` meets its contract: the first boxes and the steps behind them, laid one after the other, lie as one.
 use native.Mathlib.Omega.{arith}
 use mathlib.Core.Path.{sym, ap₂, ◌∙◌}
 use Prim.Native.Nat.{◌+◌}
@@ -12,16 +13,14 @@ use Rattle.tape.proofs.writing.lay_tape.Goals as goal
 
 pub pack_steps-requires : goal.pack_steps-requires
 pack_steps-requires c =
-    let b = c in
     let p = c.put in
-    (b.requires.0, rw (part-from 2 p.new.0, length-drop) (omega (arith, p.auto.0, size-bits first_edition b.args.words.now, b.requires.1)))
+    (c.requires.0, rw (part-from 2 p.new.buf, length-drop) (omega (arith, p.auto.buf, size-bits first_edition c.args.words.now, c.requires.1)))
 
 pub returns : goal.returns
 returns c =
-    let b = c in
     let p = c.put in
-    let s = b.args.buf.now in
-    let f = b.args.first in
-    lay-part p.new.0 c.pack_steps.new.1.0 (steps_part first_edition b.args.words.now) (omega (arith, p.auto.0, size-bits first_edition b.args.words.now, b.requires.1)) c.pack_steps.ensures
-    ∙ ap₂ (λ l k. overlaid l (0 + k) (steps_part first_edition b.args.words.now)) p.ensures (sym (length-bits 16 f))
-    ∙ overlaid-overlaid (bits_of s) 0 (bits 16 f) (steps_part first_edition b.args.words.now) (omega arith)
+    let s = c.args.buf.now in
+    let f = c.args.first in
+    lay-part p.new.buf c.pack_steps.new.buf (steps_part first_edition c.args.words.now) (omega (arith, p.auto.buf, size-bits first_edition c.args.words.now, c.requires.1)) c.pack_steps.ensures
+    ∙ ap₂ (λ l k. overlaid l (0 + k) (steps_part first_edition c.args.words.now)) p.ensures (sym (length-bits 16 f))
+    ∙ overlaid-overlaid (bits_of s) 0 (bits 16 f) (steps_part first_edition c.args.words.now) (omega arith)

@@ -1,3 +1,4 @@
+-- The first i words are steps, and the bits that they take are counted up to 40,000.
 use mathlib.Core.Path.{◌≡◌}
 use Prim.Native.Nat.{◌-◌, ◌≤◌, min}
 use mathlib.Core.Bool.{true}

@@ -1,7 +1,20 @@
-use Prim.Native.Nat.{◌-◌}
-use lib.ListN.{length}
-use Rattle.tape.specs.Edition.{edition_of}
+-- After i words their steps lie in the buffer, from where the steps begin, and the next bit is p.
+use Prim.Native.Nat.{ℕ, ◌+◌, ◌-◌, ◌≤◌}
+use mathlib.Core.Path.{◌≡◌}
+use mathlib.Core.List.{List}
+use lib.ListN.{length, take}
+use Rattle.tape.specs.Bits.{bits_of, overlaid}
+use Rattle.tape.specs.Edition.{Edition, edition_of}
+use Rattle.tape.specs.Reading.{start}
+use Rattle.tape.specs.Writing.{body}
 use Rattle.tape.proofs.writing.pack_steps.Given as goal
+
+-- the first i steps of xs lie in b, laid over s, and the next bit is p
+pub record Packed (ed : Edition) (xs s b : List ℕ) (p i : ℕ) : Type 0 where
+  pub some : i ≤ length xs
+  pub next : p ≡ start ed + length (body ed (take i xs))
+  pub same : length b ≡ length s
+  pub laid : bits_of b ≡ overlaid (bits_of s) (start ed) (body ed (take i xs))
 
 abbrev pub invariant-loop-i : goal.invariant-loop-i
 invariant-loop-i l = Packed (edition_of l.edition) l.words l.initial.buf l.buf l.p l.i

@@ -1,3 +1,4 @@
+-- `writing::put_end` meets its contract: the end mark and the zeros behind it are one field of so many bits.
 use native.Mathlib.Omega.{arith}
 use mathlib.Core.Path.{◌≡◌, sym, ap, subst, ◌∙◌}
 use Prim.Native.Nat.{ℕ, ◌+◌, ◌-◌, ◌*◌, ◌%◌, ◌^◌, ◌<◌}
@@ -7,9 +8,9 @@ use Rattle.tape.specs.Edition.{Edition, edition_of, mark_in}
 use Rattle.tape.specs.Writing.{pad, ending}
 use Rattle.tape.specs.declared.edition.Mark.{Mark}
 use Rattle.tape.proofs.WritingLaws.{length-ending, end-field, end-shifted}
+use Rattle.tape.proofs.writing.put_end.Goals.{After-mark_of-mark}
 use Rattle.tape.proofs.writing.put_end.Goals as goal
 
--- `writing::put_end` meets its contract.
 -- the end mark as the code puts it, in one field with the zeros behind it
 record Field (ed : Edition) (p : ℕ) (m : Mark) : Type 0 where
   small : m.number * 2 ^ ((8 - (p + m.width) % 8) % 8) % 2 ^ 64 < 2 ^ (m.width + (8 - (p + m.width) % 8) % 8)
@@ -28,22 +29,20 @@ as-field ed p m e =
       long = sym (length-ending ed p);
     }
 
-at-end : (c : tie.After-mark-of) → Field (edition_of c.args.edition) c.args.p c.mark_of-mark.result
+at-end : (c : After-mark_of-mark) → Field (edition_of c.args.edition) c.args.p c.mark_of-mark.result
 at-end c = as-field (edition_of c.args.edition) c.args.p c.mark_of-mark.result c.mark_of-mark.ensures
 
-least : (c : tie.After-mark-of) → c.mark_of-mark.result.width ≡ length (edition_of c.args.edition).mark
+least : (c : After-mark_of-mark) → c.mark_of-mark.result.width ≡ length (edition_of c.args.edition).mark
 least c = ap (λ (m : Mark). m.width) c.mark_of-mark.ensures
 
 pub put-requires : goal.put-requires
 put-requires c =
-    let m = c in
-    let b = m in
-    let ed = edition_of b.args.edition in
-    let f = at-end m in
-    (omega (arith, least m, ed.mark_least), omega (arith, least m, ed.mark_most), f.small, omega (arith, f.long, b.requires.1), omega (arith, b.requires.0))
+    let at = goal.at.put-requires c in
+    let ed = edition_of c.args.edition in
+    let f = at-end at.After-mark_of-mark in
+    (omega (arith, least at.After-mark_of-mark, ed.mark_least), omega (arith, least at.After-mark_of-mark, ed.mark_most), f.small, omega (arith, f.long, c.requires.1), omega (arith, c.requires.0))
 
 pub returns : goal.returns
 returns c =
-    let m = c in
-    let a = m.args in
-    c.put.ensures ∙ ap (overlaid (bits_of a.buf.now) a.p) (at-end m).is
+    let a = c.args in
+    c.put.ensures ∙ ap (overlaid (bits_of a.buf.now) a.p) (at-end (goal.at.returns c).After-mark_of-mark).is
