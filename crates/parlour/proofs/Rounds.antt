@@ -17,7 +17,6 @@ use Rattle.devices.specs.declared.Step.TheVariants.{Advance}
 use Rattle.devices.specs.Contents.{fresh_tablet}
 use Rattle.devices.specs.Effects.{box_of, refuse}
 use Rattle.rules.specs.Rules.{marked_in, of_its_round, marked}
-use Rattle.state.specs.declared.Run.{Run}
 use Rattle.state.proofs.SlotLaws.{replaced-at}
 use Rattle.parlour.specs.Steps.{within, slot_of, device_of, here_at, applied, taken_if, taken}
 use Rattle.parlour.specs.Statements.{tablet_at, RoundMoves, RoundsMove}

@@ -23,7 +23,6 @@ use Rattle.parlour.specs.Steps.{taken}
 use Rattle.replay.specs.Replay.{kinds, of_fields, step_of, played_by, played, PlayPromise}
 use Rattle.replay.specs.Working.{Small}
 use Rattle.replay.specs.declared.Decoded.{Decoded}
-use Rattle.tape.specs.declared.Written.TheVariants as W
 use Rattle.replay.specs.declared.Decoded.TheVariants as D
 
 -- ---- The fields of a word

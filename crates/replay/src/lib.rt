@@ -1,5 +1,6 @@
 // A recorded tape played: which step a word of the reader's row is, and that step taken.
 #![tactic(auto)]
+
 ghost use Rattle.std.specs.Prelude.{◌≡◌};
 ghost use Rattle.replay.specs.Replay.{ask_of, of_fields, step_of, PlayPromise};
 ghost use Rattle.replay.specs.Working.{Small};

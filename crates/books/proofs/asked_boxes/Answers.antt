@@ -1,4 +1,3 @@
-use Prim.Native.Nat.{◌-◌}
 use mathlib.Core.Path.{◌≡◌, ◌∙◌}
 use native.Mathlib.Omega.{arith}
 use lib.Bits.{or_zero_r}
@@ -22,16 +21,16 @@ loop-subset-preserved c =
     let a = c.args in
     let f = queried_boxes a.listed a.config a.t in
     elim c.if-subset-t.branch [
-      then-subset-t w ↦ (
-      omega arith,
-      unions-on f l.subset l.invariant.1
-          (w.boxes-is ∙ queried-in members_of 0 a.listed a.config a.t union l.subset l.boxes w.join_changes-joined.ensures (eq-eqb _ _ w.if-subset-t.true) w.members_of-boxes.ensures),
-    )
-    | else-subset-t w ↦ (
-      omega arith,
-      unions-on f l.subset l.invariant.1
-          (w.boxes-is ∙ queried-out members_of 0 a.listed a.config a.t union or_zero_r l.subset l.boxes (ne_eqb _ _ w.if-subset-t.false)),
-    )
+      | then-subset-t w ↦ (
+        omega arith,
+        unions-on f l.subset l.invariant.1
+            (w.boxes-is ∙ queried-in members_of 0 a.listed a.config a.t union l.subset l.boxes w.join_changes-joined.ensures (eq-eqb _ _ w.if-subset-t.true) w.members_of-boxes.ensures),
+      )
+      | else-subset-t w ↦ (
+        omega arith,
+        unions-on f l.subset l.invariant.1
+            (w.boxes-is ∙ queried-out members_of 0 a.listed a.config a.t union or_zero_r l.subset l.boxes (ne_eqb _ _ w.if-subset-t.false)),
+      )
     ]
 
 pub returns : goal.returns

@@ -1,4 +1,3 @@
-use Prim.Native.Nat.{◌-◌}
 use mathlib.Core.Bool.{Bool, true}
 use mathlib.Core.Path.{◌≡◌, ◌∙◌}
 use native.Mathlib.Omega.{arith}
@@ -24,16 +23,16 @@ loop-subset-preserved c =
     let p = queried_majority a.listed a.config a.t a.answered in
     let gives : Config → Bool = λ x. has_majority x a.answered in
     elim c.if-subset-t.branch [
-      then-subset-t w ↦ (
-      omega arith,
-      each_on p l.subset l.invariant.1
-          (w.all-is ∙ queried-in gives true a.listed a.config a.t both l.subset l.all w.join_changes-joined.ensures (eq-eqb _ _ w.if-subset-t.true) w.majority-all.ensures),
-    )
-    | else-subset-t w ↦ (
-      omega arith,
-      each_on p l.subset l.invariant.1
-          (w.all-is ∙ queried-out gives true a.listed a.config a.t both both_yes l.subset l.all (ne_eqb _ _ w.if-subset-t.false)),
-    )
+      | then-subset-t w ↦ (
+        omega arith,
+        each_on p l.subset l.invariant.1
+            (w.all-is ∙ queried-in gives true a.listed a.config a.t both l.subset l.all w.join_changes-joined.ensures (eq-eqb _ _ w.if-subset-t.true) w.majority-all.ensures),
+      )
+      | else-subset-t w ↦ (
+        omega arith,
+        each_on p l.subset l.invariant.1
+            (w.all-is ∙ queried-out gives true a.listed a.config a.t both both_yes l.subset l.all (ne_eqb _ _ w.if-subset-t.false)),
+      )
     ]
 
 pub returns : goal.returns

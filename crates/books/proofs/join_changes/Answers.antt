@@ -1,4 +1,3 @@
-use Prim.Native.Nat.{◌-◌}
 use mathlib.Core.Path.{◌≡◌, ◌∙◌}
 use native.Mathlib.Omega.{arith}
 use borrow.Author.Tests.{eq-eqb, ne_eqb}
@@ -17,8 +16,8 @@ loop-k-preserved c =
     let a = c.args in
     let f = turn a.listed.changes a.t in
     elim c.if-t-k-eq1.branch [
-      then-t-k-eq1 w ↦ (omega arith, times-on f l.k _ l.invariant.1 (w.joined-is ∙ w.join_configs-joined.ensures ∙ pick_true _ _ (eq-eqb _ _ w.if-t-k-eq1.true)))
-    | else-t-k-eq1 w ↦ (omega arith, times-on f l.k _ l.invariant.1 (w.joined-is ∙ pick-false _ _ (ne_eqb _ _ w.if-t-k-eq1.false)))
+      | then-t-k-eq1 w ↦ (omega arith, times-on f l.k _ l.invariant.1 (w.joined-is ∙ w.join_configs-joined.ensures ∙ pick_true _ _ (eq-eqb _ _ w.if-t-k-eq1.true)))
+      | else-t-k-eq1 w ↦ (omega arith, times-on f l.k _ l.invariant.1 (w.joined-is ∙ pick-false _ _ (ne_eqb _ _ w.if-t-k-eq1.false)))
     ]
 
 pub returns : goal.returns

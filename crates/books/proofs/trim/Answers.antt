@@ -1,4 +1,3 @@
-use Prim.Native.Nat.{◌-◌}
 use mathlib.Core.Path.{◌≡◌, sym, ◌∙◌}
 use native.Mathlib.Omega.{arith}
 use Rattle.sets.proofs.BoundedLaws.{those-zero, those-out}
@@ -23,8 +22,8 @@ loop-k-preserved c =
     let a = c.args in
     let p = stayer a.listed.changes a.config a.t in
     elim c.if-stays_out.branch [
-      then-stays_out w ↦ (omega arith, w.out-is ∙ those-on l.k p (omega arith) l.invariant.1 (sym c.stays_out.ensures ∙ w.if-stays_out.true))
-    | else-stays_out w ↦ (omega arith, w.out-is ∙ l.invariant.1 ∙ those-out l.k p (sym c.stays_out.ensures ∙ w.if-stays_out.false))
+      | then-stays_out w ↦ (omega arith, w.out-is ∙ those-on l.k p (omega arith) l.invariant.1 (sym c.stays_out.ensures ∙ w.if-stays_out.true))
+      | else-stays_out w ↦ (omega arith, w.out-is ∙ l.invariant.1 ∙ those-out l.k p (sym c.stays_out.ensures ∙ w.if-stays_out.false))
     ]
 
 pub returns : goal.returns

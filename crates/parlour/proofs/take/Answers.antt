@@ -1,6 +1,5 @@
 -- One step: the turns of its three loops, and what they and the calls in between come to.
-use Rattle.std.proofs.Common.{rules, Bool, ◌≡◌, ◌≤◌, ◌<◌, ◌∙◌, ap, sym, arith, length}
-use lib.ListN.{length-set}
+use Rattle.std.proofs.Common.{rules, Bool, ◌<◌, ◌∙◌, ap, sym, arith, length}
 use borrow.Author.Tests.{eq-eqb, ne_eqb}
 use Rattle.sets.specs.Choice.{both}
 use Rattle.books.proofs.Turns.{length-mapped}
@@ -8,7 +7,7 @@ use Rattle.state.specs.Slots.{empty_slot, is_free}
 use Rattle.state.proofs.SlotLaws.{many-in, many-out}
 use Rattle.parlour.specs.Steps.{taken_if}
 use Rattle.parlour.proofs.Passes.{scan-holds, scan-bound, scan-turn, scan-done, left-to-lay}
-use Rattle.parlour.proofs.Taking.{pass-start, pass-skip, pass-filled, pass-free, pass-done, counted-free, take-is}
+use Rattle.parlour.proofs.Taking.{pass-skip, pass-filled, pass-free, pass-done, counted-free, take-is}
 use Rattle.parlour.proofs.take.Goals.{then-is_empty, else-is_empty, then-is_empty-2, else-is_empty-2}
 use Rattle.parlour.proofs.take.Goals as goal
 
@@ -37,8 +36,8 @@ loop-i-preserved c =
     let b : l.i < length c.args.run.slots = omega (arith, c.loop-z.invariant.2) in
     let e = c.is_empty.ensures in
     elim c.if-is_empty.branch [
-      then-is_empty w ↦ (omega arith, omega arith, omega arith, omega (arith, l.invariant.3, many-in is_free empty_slot c.args.run.slots l.i b (sym e ∙ w.if-is_empty.true)))
-    | else-is_empty w ↦ (omega arith, omega arith, omega arith, omega (arith, l.invariant.3, many-out is_free empty_slot c.args.run.slots l.i b (sym e ∙ w.if-is_empty.false)))
+      | then-is_empty w ↦ (omega arith, omega arith, omega arith, omega (arith, l.invariant.3, many-in is_free empty_slot c.args.run.slots l.i b (sym e ∙ w.if-is_empty.true)))
+      | else-is_empty w ↦ (omega arith, omega arith, omega arith, omega (arith, l.invariant.3, many-out is_free empty_slot c.args.run.slots l.i b (sym e ∙ w.if-is_empty.false)))
     ]
 
 -- ---- The laying
@@ -50,8 +49,8 @@ loop-p-preserved-then-to-q-eq1 c =
     let b = eq-eqb _ _ c.if-to-q-eq1.true in
     let e = c.is_empty-then-to-q-eq1.ensures in
     elim c.if-is_empty-2.branch [
-      then-is_empty-2 w ↦ pass-free _ _ _ s.p s.q s.run l s.invariant b (sym e ∙ w.if-is_empty-2.true) w.address-copy.ensures w.run-is w.q-is
-    | else-is_empty-2 w ↦ pass-filled _ _ _ s.p s.q s.run l s.invariant b (sym e ∙ w.if-is_empty-2.false) w.run-is w.q-is
+      | then-is_empty-2 w ↦ pass-free _ _ _ s.p s.q s.run l s.invariant b (sym e ∙ w.if-is_empty-2.true) w.address-copy.ensures w.run-is w.q-is
+      | else-is_empty-2 w ↦ pass-filled _ _ _ s.p s.q s.run l s.invariant b (sym e ∙ w.if-is_empty-2.false) w.run-is w.q-is
     ]
 
 pub loop-p-preserved : goal.loop-p-preserved

@@ -1,5 +1,4 @@
 use mathlib.Core.Path.{sym, ◌∙◌}
-use borrow.Author.Tests.{not-true, not-false}
 use Rattle.rules.specs.Rules.{advance_from}
 use Rattle.rules.proofs.Cases.{chosen, passed}
 use Rattle.rules.proofs.advances.advance_from.Goals as goal
