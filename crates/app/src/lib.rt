@@ -1,5 +1,6 @@
 // What the tablet app calls from C: the tape check and the majority test, on plain numbers and bytes. A lent slice is a pointer and then a length.
 #![tactic(auto)]
+
 ghost use Rattle.std.specs.Prelude.{◌≡◌};
 ghost use Rattle.sets.specs.Majority.{majority_of};
 ghost use Rattle.tape.specs.Promises.{CheckPromise};
