@@ -1,6 +1,6 @@
 /* The two calls of the parlour library that the tablet app makes. Both are proved.
 
-   Link with the archive that `rt staticlib app` writes, for x86-64:
+   Link with the archive that `tools/build app` writes, for x86-64:
 
        cc -I include my-app.c target/staticlib/libapp.a
 
