@@ -1,4 +1,4 @@
-// How a program ended. The language has no exit status, so a program writes it to a file that an argument names.
+// How a program ended. It writes that as a number to a file that an argument names.
 use crate::failure::fail;
 use crate::out::{Out, write_out};
 use std::env::FillError;
