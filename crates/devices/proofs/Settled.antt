@@ -8,11 +8,12 @@ settled =
       number_of = λ outcome. equation-settles _;
       kept_after = λ outcome kept. equation-settles _;
       is_empty = λ m. equation-settles _;
-      addressee_of = λ m. equation-settles _;
-      address = λ m device. equation-settles _;
-      no_sending = equation-settles _;
+      addressee = λ m. equation-settles _;
+      addressed_to = λ m device. equation-settles _;
+      none = equation-settles _;
       only_device = λ device. equation-settles _;
       box_of = λ device. equation-settles _;
-      refuse_with = λ n h. equation-settles _;
+      unchanged = λ outcome h. equation-settles _;
+      refused = λ refusal h. equation-settles _;
       merge = λ listed mine theirs. equation-settles _;
     }

@@ -1,18 +1,24 @@
 -- What a step does: to the acting device's parts, to the list of changes, and which messages go out.
-use Rattle.std.specs.Prelude.{ℕ, zero, suc, ◌-◌, ◌^◌, Bool, true, false, List, [], ◌∷◌, ltb, leb}
+use Rattle.std.specs.Prelude.{ℕ, zero, suc, ◌-◌, ◌^◌, Bool, true, false, List, [], ◌∷◌, ltb, leb, Result, Ok, Err}
 use Rattle.std.proofs.Math.Option.{Option, none, some}
 use Rattle.sets.specs.Choice.{pick, both}
 use Rattle.sets.specs.Sets.{has}
+use Rattle.refusals.specs.declared.Refusal.{Refusal}
+use Rattle.refusals.specs.Refusals.{number}
 use Rattle.books.specs.declared.Book.{Book}
 use Rattle.books.specs.Books.{join_books}
-use Rattle.devices.specs.declared.Outcome.{Outcome}
-use Rattle.devices.specs.declared.Outcome.TheVariants.{Done, Round, Committed, Adopted, Refused}
+use Rattle.devices.specs.declared.Accepted.{Accepted}
+use Rattle.devices.specs.declared.Accepted.TheVariants.{Done, Round, Committed, Adopted}
 use Rattle.devices.specs.declared.Letter.{Letter}
 use Rattle.devices.specs.declared.Message.{Message}
 use Rattle.devices.specs.declared.Message.TheVariants.{Empty, Request, Answer, Commit}
 use Rattle.devices.specs.declared.Sending.{Sending}
 use Rattle.devices.specs.declared.Here.{Here}
 use Rattle.devices.specs.declared.Effect.{Effect}
+
+-- what a step answers: accepted or refused
+abbrev pub Outcome : Type 0
+Outcome = Result Accepted Refusal
 
 -- what a caller is told ("Numbers a caller gets back"): the number, and the values that come with it, a new round or a book handed back
 pub record Told : Type 0 where
@@ -23,11 +29,11 @@ pub record Told : Type 0 where
 
 -- the answer that each case of an outcome is; "A refusal carries no book"
 abbrev pub answer_of : Outcome → Told
-answer_of Done = record { number = 0; round = none; committed = none; adopted = none }
-answer_of (Round n) = record { number = 0; round = some n; committed = none; adopted = none }
-answer_of (Committed b) = record { number = 0; round = none; committed = some b; adopted = none }
-answer_of (Adopted b) = record { number = 0; round = none; committed = none; adopted = some b }
-answer_of (Refused n) = record { number = n; round = none; committed = none; adopted = none }
+answer_of (Ok Done) = record { number = 0; round = none; committed = none; adopted = none }
+answer_of (Ok (Round n)) = record { number = 0; round = some n; committed = none; adopted = none }
+answer_of (Ok (Committed b)) = record { number = 0; round = none; committed = some b; adopted = none }
+answer_of (Ok (Adopted b)) = record { number = 0; round = none; committed = none; adopted = some b }
+answer_of (Err refusal) = record { number = number refusal; round = none; committed = none; adopted = none }
 
 -- its number
 abbrev pub number_of : Outcome → ℕ
@@ -35,11 +41,11 @@ number_of o = (answer_of o).number
 
 -- "the join of all books handed back": what it becomes by an outcome
 abbrev pub kept_after : Outcome → Book → Book
-kept_after Done kept = kept
-kept_after (Round n) kept = kept
-kept_after (Committed b) kept = join_books kept b
-kept_after (Adopted b) kept = join_books kept b
-kept_after (Refused n) kept = kept
+kept_after (Ok Done) kept = kept
+kept_after (Ok (Round n)) kept = kept
+kept_after (Ok (Committed b)) kept = join_books kept b
+kept_after (Ok (Adopted b)) kept = join_books kept b
+kept_after (Err refusal) kept = kept
 
 -- the set of one device; of none where there is no such device
 abbrev pub only : ℕ → ℕ
@@ -86,11 +92,11 @@ messages_of s = copies s.message s.to 0 24
 abbrev pub no_sending : Sending
 no_sending = record { message = Empty; to = 0 }
 
--- "state .. stay as given": a refusal with its number
-unfoldable pub refuse : ℕ → Here → Effect
-refuse n h =
+-- the parts as they came, with an outcome: nothing is freed, stopped or sent
+abbrev pub unchanged : Outcome → Here → Effect
+unchanged outcome h =
     record {
-      outcome = Refused n;
+      outcome = outcome;
       contents = h.contents;
       tablet = h.tablet;
       listed = h.listed;
@@ -98,3 +104,7 @@ refuse n h =
       stops = false;
       sending = no_sending;
     }
+
+-- "state .. stay as given": a refusal
+unfoldable pub refuse : Refusal → Here → Effect
+refuse refusal h = unchanged (Err refusal) h

@@ -3,9 +3,10 @@
 
 ghost use Rattle.std.specs.Prelude.{◌≡◌};
 ghost use Rattle.devices.specs.Contents.{merged};
-ghost use Rattle.devices.specs.Effects.{number_of, kept_after, only, box_of, addressee, letter_to, addressed, is_empty, no_sending, refuse};
+ghost use Rattle.devices.specs.Effects.{number_of, kept_after, only, box_of, addressee, letter_to, addressed, is_empty, no_sending, unchanged, refuse};
 
 use books::{Book, Config, Listed, Notes};
+use refusals::Refusal;
 
 #[derive(Clone, Copy)]
 pub struct Contents {
@@ -14,20 +15,14 @@ pub struct Contents {
     pub t: u8,
 }
 
-#[derive(Clone, Copy)]
-pub enum Floor {
-    Unset,
-    Set(Book),
-}
-
-// What an asking tablet saved when its round began, the boxes that answered, and the floor.
+// What an asking tablet saved when its round began, the boxes that answered, and the floor, where it is set.
 #[derive(Clone, Copy)]
 pub struct Asking {
     pub config: Config,
     pub t: u8,
     pub candidates: Notes,
     pub answered: u16,
-    pub floor: Floor,
+    pub floor: Option<Book>,
 }
 
 #[derive(Clone, Copy)]
@@ -81,15 +76,17 @@ pub enum Step {
     Stop(u8),
 }
 
-// What a step answers: done, a new round, a book handed back, or a refusal with its number.
+// What an accepted step answers: done, a new round, or a book handed back.
 #[derive(Clone, Copy)]
-pub enum Outcome {
+pub enum Accepted {
     Done,
     Round(u16),
     Committed(Book),
     Adopted(Book),
-    Refused(u8),
 }
+
+// What a step answers.
+pub type Outcome = Result<Accepted, Refusal>;
 
 // A message and the set of devices that it goes to, device d having weight 2^d.
 #[derive(Clone, Copy)]
@@ -125,11 +122,8 @@ pub fn number_of(outcome: Outcome) -> u8
     ensures { result ≡ number_of outcome }
 {
     match outcome {
-        Outcome::Done => 0,
-        Outcome::Round(_) => 0,
-        Outcome::Committed(_) => 0,
-        Outcome::Adopted(_) => 0,
-        Outcome::Refused(n) => n,
+        Ok(_) => 0,
+        Err(refusal) => u8::from(refusal),
     }
 }
 
@@ -138,65 +132,66 @@ pub fn kept_after(outcome: Outcome, kept: Book) -> Book
     ensures { result ≡ kept_after outcome kept }
 {
     match outcome {
-        Outcome::Done => kept,
-        Outcome::Round(_) => kept,
-        Outcome::Committed(b) => books::join_books(kept, b),
-        Outcome::Adopted(b) => books::join_books(kept, b),
-        Outcome::Refused(_) => kept,
+        Ok(Accepted::Committed(book) | Accepted::Adopted(book)) => books::join_books(kept, book),
+        _ => kept,
     }
 }
 
-pub fn is_empty(m: Message) -> bool
-    ensures { result ≡ is_empty m }
-{
-    match m {
-        Message::Empty => true,
-        Message::Request(_) => false,
-        Message::Answer(_) => false,
-        Message::Commit(_) => false,
-    }
-}
-
-// Whom a message goes to.
-pub fn addressee_of(m: Message) -> u8
-    ensures { result ≡ addressee m }
-{
-    match m {
-        Message::Empty => 0,
-        Message::Request(l) => l.to,
-        Message::Answer(l) => l.to,
-        Message::Commit(n) => n.to,
-    }
-}
-
-// The same message to a device.
-pub fn address(m: Message, device: u8) -> Message
-    ensures { result ≡ addressed m device }
-{
-    match m {
-        Message::Empty => Message::Empty,
-        Message::Request(l) => Message::Request(address_letter(l, device)),
-        Message::Answer(l) => Message::Answer(address_letter(l, device)),
-        Message::Commit(n) => {
-            let book = n.book;
-            Message::Commit(Notice {
-                from: n.from,
-                to: device,
-                book: book,
-            })
+impl Contents {
+    // Merging, lines 18 to 20 of Figure 2.
+    #[tactic(auto, unfolding(crate::specs::Contents::merged))]
+    pub fn merge(self, listed: Listed, theirs: Contents) -> Contents
+        ensures { result ≡ merged listed self theirs }
+    {
+        let v = books::join_books(self.v, theirs.v);
+        Contents {
+            v,
+            candidates: books::join_notes(self.candidates, theirs.candidates),
+            t: books::trim(listed, v.config, self.t | theirs.t),
         }
     }
 }
 
-fn address_letter(l: Letter, device: u8) -> Letter
-    ensures { result ≡ letter_to l device }
-{
-    let contents = l.contents;
-    Letter {
-        from: l.from,
-        to: device,
-        round: l.round,
-        contents: contents,
+impl Letter {
+    // The same letter to a device.
+    fn addressed_to(self, device: u8) -> Letter
+        ensures { result ≡ letter_to self device }
+    {
+        Letter { to: device, ..self }
+    }
+}
+
+impl Message {
+    pub fn is_empty(self) -> bool
+        ensures { result ≡ is_empty self }
+    {
+        matches!(self, Message::Empty)
+    }
+
+    // Whom a message goes to.
+    pub fn addressee(self) -> u8
+        ensures { result ≡ addressee self }
+    {
+        match self {
+            Message::Empty => 0,
+            Message::Request(letter) | Message::Answer(letter) => letter.to,
+            Message::Commit(notice) => notice.to,
+        }
+    }
+
+    // The same message to a device.
+    pub fn addressed_to(self, device: u8) -> Message
+        ensures { result ≡ addressed self device }
+    {
+        match self {
+            Message::Empty => Message::Empty,
+            Message::Request(letter) => Message::Request(letter.addressed_to(device)),
+            Message::Answer(letter) => Message::Answer(letter.addressed_to(device)),
+            Message::Commit(notice) => Message::Commit(Notice {
+                to: device,
+                ..notice
+            }),
+        }
     }
 }
 
@@ -211,50 +206,45 @@ pub fn only_device(device: u8) -> u32
 pub fn box_of(device: u8) -> u16
     ensures { result ≡ box_of device }
 {
-    if device < 8 {
-        return 0;
-    }
-    if device < 24 { 1 << (device - 8) } else { 0 }
-}
-
-pub fn no_sending() -> Sending
-    ensures { result ≡ no_sending }
-{
-    Sending {
-        message: Message::Empty,
-        to: 0,
+    match device {
+        8..24 => 1 << (device - 8),
+        _ => 0,
     }
 }
 
-// A refusal: the parts as they came.
-pub fn refuse_with(n: u8, h: Here) -> Effect
-    ensures { result ≡ refuse n h }
-{
-    let contents = h.contents;
-    let tablet = h.tablet;
-    let listed = h.listed;
-    let sending = no_sending();
-    Effect {
-        outcome: Outcome::Refused(n),
-        contents: contents,
-        tablet: tablet,
-        listed: listed,
-        frees: false,
-        stops: false,
-        sending: sending,
+impl Sending {
+    // Nothing is sent.
+    pub fn none() -> Sending
+        ensures { result ≡ no_sending }
+    {
+        Sending {
+            message: Message::Empty,
+            to: 0,
+        }
     }
 }
 
-// Merging, lines 18 to 20 of Figure 2.
-pub fn merge(listed: Listed, mine: Contents, theirs: Contents) -> Contents
-    ensures { result ≡ merged listed mine theirs }
-{
-    let v = books::join_books(mine.v, theirs.v);
-    let candidates = books::join_notes(mine.candidates, theirs.candidates);
-    let t = books::trim(listed, v.config, mine.t | theirs.t);
-    Contents {
-        v: v,
-        candidates: candidates,
-        t: t,
+impl Here {
+    // The parts as they came, with an outcome: nothing is freed, stopped or sent.
+    pub fn unchanged(self, outcome: Outcome) -> Effect
+        ensures { result ≡ unchanged outcome self }
+    {
+        Effect {
+            outcome,
+            contents: self.contents,
+            tablet: self.tablet,
+            listed: self.listed,
+            frees: false,
+            stops: false,
+            sending: Sending::none(),
+        }
+    }
+
+    // A refusal: the parts as they came.
+    #[tactic(auto, unfolding(crate::specs::Effects::refuse))]
+    pub fn refused(self, refusal: Refusal) -> Effect
+        ensures { result ≡ refuse refusal self }
+    {
+        self.unchanged(Err(refusal))
     }
 }
