@@ -3,77 +3,65 @@ ghost use Rattle.std.specs.Prelude.{◌≡◌};
 ghost use Rattle.rules.specs.Rules.{hands_back, floor_inside, decided, allowed, steady, or_set, commit, adopt_or, advance_from, advance};
 
 use books::Book;
-use devices::{Asking, Effect, Floor, Here, Message, Notice, Outcome, Phase, Sending, Tablet};
+use devices::{Accepted, Asking, Effect, Here, Message, Notice, Phase, Sending, Tablet};
+use refusals::Refusal;
 
 // The candidates with v's configuration joined with T.
+#[tactic(auto, unfolding(crate::specs::Rules::decided))]
 fn decide(h: Here) -> Book
     ensures { result ≡ decided h }
 {
     let c = h.contents;
-    let notes = c.candidates;
-    let config = books::join_changes(h.listed, c.v.config, c.t);
     Book {
-        notes: notes,
-        config: config,
+        notes: c.candidates,
+        config: books::join_changes(h.listed, c.v.config, c.t),
     }
 }
 
 // Whether the round has its answers, or v's configuration has moved on.
+#[tactic(auto, unfolding(crate::specs::Rules::allowed))]
 fn is_allowed(a: Asking, h: Here) -> bool
     ensures { result ≡ allowed a h }
 {
-    let config = h.contents.v.config;
-    if books::same_config(config, a.config) {
-        return books::every_majority(h.listed, a.config, a.t, a.answered);
-    }
-    true
+    !books::same_config(h.contents.v.config, a.config)
+        || books::every_majority(h.listed, a.config, a.t, a.answered)
 }
 
 // Whether configuration and T equal the saved.
+#[tactic(auto, unfolding(crate::specs::Rules::steady))]
 fn is_steady(a: Asking, h: Here) -> bool
     ensures { result ≡ steady a h }
 {
-    let c = h.contents;
-    let config = c.v.config;
-    books::same_config(config, a.config) & (c.t == a.t)
+    books::same_config(h.contents.v.config, a.config) & (h.contents.t == a.t)
 }
 
-fn set_floor(floor: Floor, b: Book) -> Floor
+// The floor, set if it is unset.
+fn set_floor(floor: Option<Book>, b: Book) -> Option<Book>
     ensures { result ≡ or_set floor b }
 {
-    match floor {
-        Floor::Unset => Floor::Set(b),
-        Floor::Set(f) => Floor::Set(f),
-    }
+    floor.or(Some(b))
 }
 
 // The tablet becomes idle and hands back a book.
-fn hand_back(outcome: Outcome, sending: Sending, h: Here) -> Effect
-    ensures { result ≡ hands_back outcome sending h }
+fn hand_back(answer: Accepted, sending: Sending, h: Here) -> Effect
+    ensures { result ≡ hands_back answer sending h }
 {
-    let contents = h.contents;
-    let listed = h.listed;
     Effect {
-        outcome: outcome,
-        contents: contents,
         tablet: Tablet {
-            round: h.tablet.round,
             phase: Phase::Idle,
+            ..h.tablet
         },
-        listed: listed,
-        frees: false,
-        stops: false,
-        sending: sending,
+        sending,
+        ..h.unchanged(Ok(answer))
     }
 }
 
 // A commit to all 24 devices.
-fn commit_rule(tablet: u8, b: Book, h: Here) -> Effect
+#[tactic(auto, unfolding(crate::specs::Rules::commit))]
+fn commit_rule(tablet: u8, b: Book, h: Here) -> Result<Effect, Refusal>
     ensures { result ≡ commit tablet b h }
 {
-    if h.free < 24 {
-        return devices::refuse_with(10, h);
-    }
+    crate::refusing::too_few_slots(24, h)?;
     let sending = Sending {
         message: Message::Commit(Notice {
             from: tablet,
@@ -82,63 +70,60 @@ fn commit_rule(tablet: u8, b: Book, h: Here) -> Effect
         }),
         to: 0xff_ffff,
     };
-    hand_back(Outcome::Committed(b), sending, h)
+    Ok(hand_back(Accepted::Committed(b), sending, h))
 }
 
 // Whether a set floor is contained in v.
-fn reached(floor: Floor, v: Book) -> bool
+fn reached(floor: Option<Book>, v: Book) -> bool
     ensures { result ≡ floor_inside floor v }
 {
-    match floor {
-        Floor::Unset => false,
-        Floor::Set(b) => books::book_inside(b, v),
-    }
+    floor.is_some_and(|b| books::book_inside(b, v))
 }
 
 // Where a set floor is contained in v, v is handed back; else another round begins.
-fn adopt_or(tablet: u8, floor: Floor, h: Here) -> Effect
+#[tactic(auto, unfolding(crate::specs::Rules::adopt_or, crate::specs::Rules::begun))]
+fn adopt_or(tablet: u8, floor: Option<Book>, h: Here) -> Result<Effect, Refusal>
     ensures { result ≡ adopt_or tablet floor h }
 {
-    let c = h.contents;
-    let v = c.v;
+    let v = h.contents.v;
     if reached(floor, v) {
-        return hand_back(Outcome::Adopted(v), devices::no_sending(), h);
+        return Ok(hand_back(Accepted::Adopted(v), Sending::none(), h));
     }
-    let round = h.tablet.round;
-    if 1022 < round {
-        return devices::refuse_with(9, h);
-    }
-    crate::rounds::begin(tablet, Outcome::Round(round + 1), floor, h.listed, c, h)
+    let round = crate::refusing::next_round(h)?;
+    crate::rounds::begin(
+        tablet,
+        Accepted::Round(round),
+        floor,
+        h.listed,
+        h.contents,
+        h,
+    )
 }
 
-fn advance_from(tablet: u8, a: Asking, h: Here) -> Effect
+#[tactic(auto, unfolding(crate::specs::Rules::advance_from))]
+fn advance_from(tablet: u8, a: Asking, h: Here) -> Result<Effect, Refusal>
     ensures { result ≡ advance_from tablet a h }
 {
-    let floor = a.floor;
     if !is_steady(a, h) {
-        return adopt_or(tablet, floor, h);
+        return adopt_or(tablet, a.floor, h);
     }
     let b = decide(h);
-    let candidates = h.contents.candidates;
-    if books::same_notes(candidates, a.candidates) {
+    if books::same_notes(h.contents.candidates, a.candidates) {
         return commit_rule(tablet, b, h);
     }
-    adopt_or(tablet, set_floor(floor, b), h)
+    adopt_or(tablet, set_floor(a.floor, b), h)
 }
 
-pub(crate) fn advance_rule(tablet: u8, h: Here) -> Effect
+#[tactic(auto, unfolding(crate::specs::Rules::advance))]
+pub(crate) fn advance_rule(tablet: u8, h: Here) -> Result<Effect, Refusal>
     ensures { result ≡ advance tablet h }
 {
-    if h.stopped {
-        return devices::refuse_with(3, h);
-    }
-    let x = h.tablet;
-    let phase = x.phase;
-    let Phase::Asks(a) = phase else {
-        return devices::refuse_with(5, h);
+    crate::refusing::stopped(h)?;
+    let Phase::Asks(a) = h.tablet.phase else {
+        return Err(Refusal::Idle);
     };
-    if is_allowed(a, h) {
-        return advance_from(tablet, a, h);
+    if !is_allowed(a, h) {
+        return Err(Refusal::NotAllowed);
     }
-    devices::refuse_with(6, h)
+    advance_from(tablet, a, h)
 }

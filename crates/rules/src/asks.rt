@@ -3,25 +3,21 @@ ghost use Rattle.std.specs.Prelude.{◌≡◌, ◌<◌, ◌^◌};
 ghost use Rattle.rules.specs.Rules.{ask_with, ask_pair, ask};
 
 use books::{Config, Listed};
-use devices::{Contents, Effect, Floor, Here, Outcome, Phase};
+use devices::{Accepted, Contents, Effect, Here, Phase};
+use refusals::Refusal;
 
 // The notes and the pair, as a set of listed changes, are merged in, and a round begins.
-fn ask_with(tablet: u8, own: u16, pair: u8, listed: Listed, h: Here) -> Effect
+#[tactic(auto, unfolding(crate::specs::Rules::ask_with))]
+fn ask_with(tablet: u8, own: u16, pair: u8, listed: Listed, h: Here) -> Result<Effect, Refusal>
     ensures { result ≡ ask_with tablet own pair listed h }
 {
-    let mine = h.contents;
-    let v = mine.v;
-    let own = books::own_notes(tablet, own);
-    let c = devices::merge(
-        listed,
-        mine,
-        Contents {
-            v: v,
-            candidates: own,
-            t: pair,
-        },
-    );
-    crate::rounds::begin(tablet, Outcome::Done, Floor::Unset, listed, c, h)
+    let asked = Contents {
+        v: h.contents.v,
+        candidates: books::own_notes(tablet, own),
+        t: pair,
+    };
+    let c = h.contents.merge(listed, asked);
+    crate::rounds::begin(tablet, Accepted::Done, None, listed, c, h)
 }
 
 // The set of one listed change.
@@ -33,12 +29,12 @@ fn only_change(place: usize) -> u8
 }
 
 // A pair that is contained in v is named by no change; one that is listed by its place; another is listed behind the others.
-fn ask_pair(tablet: u8, own: u16, pair: Config, h: Here) -> Effect
+#[tactic(auto, unfolding(crate::specs::Rules::ask_pair, books::specs::Queried::with_change))]
+fn ask_pair(tablet: u8, own: u16, pair: Config, h: Here) -> Result<Effect, Refusal>
     ensures { result ≡ ask_pair tablet own pair h }
 {
-    let v = h.contents.v;
     let listed = h.listed;
-    if books::config_inside(pair, v.config) {
+    if books::config_inside(pair, h.contents.v.config) {
         return ask_with(tablet, own, 0, listed, h);
     }
     let place = books::place_of(listed, pair);
@@ -47,7 +43,7 @@ fn ask_pair(tablet: u8, own: u16, pair: Config, h: Here) -> Effect
     }
     let count = listed.count;
     if 5 < count {
-        return devices::refuse_with(8, h);
+        return Err(Refusal::SeventhChange);
     }
     let mut more = listed;
     more.changes[count] = pair;
@@ -55,16 +51,13 @@ fn ask_pair(tablet: u8, own: u16, pair: Config, h: Here) -> Effect
     ask_with(tablet, own, only_change(count), more, h)
 }
 
-pub(crate) fn ask_rule(tablet: u8, own: u16, pair: Config, h: Here) -> Effect
+#[tactic(auto, unfolding(crate::specs::Rules::ask))]
+pub(crate) fn ask_rule(tablet: u8, own: u16, pair: Config, h: Here) -> Result<Effect, Refusal>
     ensures { result ≡ ask tablet own pair h }
 {
-    if h.stopped {
-        return devices::refuse_with(3, h);
-    }
-    let x = h.tablet;
-    let phase = x.phase;
-    match phase {
+    crate::refusing::stopped(h)?;
+    match h.tablet.phase {
         Phase::Idle => ask_pair(tablet, own, pair, h),
-        Phase::Asks(_) => devices::refuse_with(4, h),
+        Phase::Asks(_) => Err(Refusal::Asking),
     }
 }

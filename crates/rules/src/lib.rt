@@ -1,14 +1,16 @@
-// The rules of the steps on the parts of the acting device; each gives an effect.
+// The rules of the steps on the parts of the acting device; each gives an effect, or a refusal.
 #![tactic(auto)]
 
 ghost use Rattle.std.specs.Prelude.{◌≡◌};
-ghost use Rattle.rules.specs.Rules.{leaves, lose, again, stop, ruled, effect_of};
+ghost use Rattle.rules.specs.Rules.{leaves, lose, again, stop, ruled, ruled_if, effect_of};
 
-use devices::{Effect, Here, Message, Outcome, Sending, Step};
+use devices::{Accepted, Effect, Here, Message, Sending, Step};
+use refusals::Refusal;
 
 mod advances;
 mod asks;
 mod deliveries;
+mod refusing;
 mod rounds;
 mod table;
 
@@ -18,52 +20,46 @@ pub use table::{About, Named, about_step};
 fn leave(frees: bool, stops: bool, sending: Sending, h: Here) -> Effect
     ensures { result ≡ leaves frees stops sending h }
 {
-    let contents = h.contents;
-    let tablet = h.tablet;
-    let listed = h.listed;
     Effect {
-        outcome: Outcome::Done,
-        contents: contents,
-        tablet: tablet,
-        listed: listed,
-        frees: frees,
-        stops: stops,
-        sending: sending,
+        frees,
+        stops,
+        sending,
+        ..h.unchanged(Ok(Accepted::Done))
     }
 }
 
-fn lose_rule(m: Message, h: Here) -> Effect
+#[tactic(auto, unfolding(crate::specs::Rules::lose))]
+fn lose_rule(m: Message, h: Here) -> Result<Effect, Refusal>
     ensures { result ≡ lose m h }
 {
-    if devices::is_empty(m) {
-        return devices::refuse_with(7, h);
+    if m.is_empty() {
+        return Err(Refusal::EmptySlot);
     }
-    leave(true, false, devices::no_sending(), h)
+    Ok(leave(true, false, Sending::none(), h))
 }
 
-fn repeat_rule(m: Message, h: Here) -> Effect
+#[tactic(auto, unfolding(crate::specs::Rules::again))]
+fn repeat_rule(m: Message, h: Here) -> Result<Effect, Refusal>
     ensures { result ≡ again m h }
 {
-    if devices::is_empty(m) {
-        return devices::refuse_with(7, h);
+    if m.is_empty() {
+        return Err(Refusal::EmptySlot);
     }
-    if h.free < 1 {
-        return devices::refuse_with(10, h);
-    }
-    let to = devices::only_device(devices::addressee_of(m));
-    leave(false, false, Sending { message: m, to: to }, h)
+    refusing::too_few_slots(1, h)?;
+    let to = devices::only_device(m.addressee());
+    Ok(leave(false, false, Sending { message: m, to }, h))
 }
 
-fn stop_rule(h: Here) -> Effect
+#[tactic(auto, unfolding(crate::specs::Rules::stop))]
+fn stop_rule(h: Here) -> Result<Effect, Refusal>
     ensures { result ≡ stop h }
 {
-    if h.stopped {
-        return devices::refuse_with(3, h);
-    }
-    leave(false, true, devices::no_sending(), h)
+    refusing::stopped(h)?;
+    Ok(leave(false, true, Sending::none(), h))
 }
 
-fn rule(step: Step, m: Message, h: Here) -> Effect
+#[tactic(auto, unfolding(crate::specs::Rules::ruled))]
+fn rule(step: Step, m: Message, h: Here) -> Result<Effect, Refusal>
     ensures { result ≡ ruled step m h }
 {
     match step {
@@ -80,17 +76,26 @@ fn rule(step: Step, m: Message, h: Here) -> Effect
     }
 }
 
+// The rule of a step, tried where the state is one and the step names a number in range.
+fn rule_if(proper: bool, step: Step, m: Message, h: Here) -> Result<Effect, Refusal>
+    ensures { result ≡ ruled_if proper step m h }
+{
+    if !proper {
+        return Err(Refusal::NoState);
+    }
+    if !about_step(step).names.in_range() {
+        return Err(Refusal::OutOfRange);
+    }
+    rule(step, m, h)
+}
+
 // What a step does, where m is what the slot that it names holds and proper says that the state is one.
+#[tactic(auto, unfolding(crate::specs::Rules::effect_of))]
 pub fn effect_of(proper: bool, step: Step, m: Message, h: Here) -> Effect
     ensures { result ≡ effect_of proper step m h }
 {
-    if proper {
-        let a = table::about_step(step);
-        let names = a.names;
-        if table::in_range(names) {
-            return rule(step, m, h);
-        }
-        return devices::refuse_with(2, h);
+    match rule_if(proper, step, m, h) {
+        Ok(effect) => effect,
+        Err(refusal) => h.refused(refusal),
     }
-    devices::refuse_with(1, h)
 }

@@ -2,56 +2,47 @@
 ghost use Rattle.std.specs.Prelude.{◌≡◌};
 ghost use Rattle.rules.specs.Rules.{begun};
 
-use books::Listed;
-use devices::{
-    Asking, Contents, Effect, Floor, Here, Letter, Message, Outcome, Phase, Sending, Tablet,
-};
+use books::{Book, Listed};
+use devices::{Accepted, Asking, Contents, Effect, Here, Letter, Message, Phase, Sending, Tablet};
+use refusals::Refusal;
 
-// A round begins with these contents, floor and listed changes; a refusal gives the parts of h.
+// A round begins with these contents, floor and listed changes.
+#[tactic(auto, unfolding(crate::specs::Rules::begun))]
 pub(crate) fn begin(
     tablet: u8,
-    outcome: Outcome,
-    floor: Floor,
+    answer: Accepted,
+    floor: Option<Book>,
     listed: Listed,
     c: Contents,
     h: Here,
-) -> Effect
-    ensures { result ≡ begun tablet outcome floor listed c h }
+) -> Result<Effect, Refusal>
+    ensures { result ≡ begun tablet answer floor listed c h }
 {
-    let round = h.tablet.round;
-    if 1022 < round {
-        return devices::refuse_with(9, h);
-    }
-    let config = c.v.config;
-    let boxes = books::asked_boxes(listed, config, c.t);
-    if h.free < sets::count_boxes(boxes) as usize {
-        return devices::refuse_with(10, h);
-    }
-    let candidates = c.candidates;
-    Effect {
-        outcome: outcome,
+    let round = crate::refusing::next_round(h)?;
+    let boxes = books::asked_boxes(listed, c.v.config, c.t);
+    crate::refusing::too_few_slots(sets::count_boxes(boxes) as usize, h)?;
+    Ok(Effect {
         contents: c,
         tablet: Tablet {
-            round: round + 1,
+            round,
             phase: Phase::Asks(Asking {
-                config: config,
+                config: c.v.config,
                 t: c.t,
-                candidates: candidates,
+                candidates: c.candidates,
                 answered: 0,
-                floor: floor,
+                floor,
             }),
         },
-        listed: listed,
-        frees: false,
-        stops: false,
+        listed,
         sending: Sending {
             message: Message::Request(Letter {
                 from: tablet,
                 to: 0,
-                round: round + 1,
+                round,
                 contents: c,
             }),
             to: (boxes as u32) << 8,
         },
-    }
+        ..h.unchanged(Ok(answer))
+    })
 }

@@ -54,13 +54,15 @@ pub fn about_step(step: Step) -> About
     }
 }
 
-// Whether the tablet, slot or device that is named is one.
-pub(crate) fn in_range(names: Named) -> bool
-    ensures { result ≡ in_range names }
-{
-    match names {
-        Named::Tablet(n) => n <= 7,
-        Named::Slot(n) => n <= 127,
-        Named::Device(n) => n <= 23,
+impl Named {
+    // Whether the tablet, slot or device that is named is one.
+    pub(crate) fn in_range(self) -> bool
+        ensures { result ≡ in_range self }
+    {
+        match self {
+            Named::Tablet(n) => n <= 7,
+            Named::Slot(n) => n <= 127,
+            Named::Device(n) => n <= 23,
+        }
     }
 }
