@@ -1,5 +1,4 @@
 pub mod SlotLaws
 pub mod StateLaws
 pub mod ListingLaws
-pub mod Cases
 pub mod Settled

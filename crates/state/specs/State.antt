@@ -1,7 +1,8 @@
 -- The state of a run (01, "What each device keeps"): the fresh one, and which states are none, refused by 1.
-use Rattle.std.specs.Prelude.{ℕ, ◌/◌, ◌^◌, Bool, true, false, not, List, ◌≡◌, ltb, leb, eqb, replicate}
+use Rattle.std.specs.Prelude.{ℕ, ◌/◌, ◌^◌, Bool, true, false, not, List, ◌≡◌, ltb, leb, eqb, replicate, Ok, Err}
 use Rattle.sets.specs.Choice.{pick, both}
 use Rattle.sets.specs.Bounded.{each}
+use Rattle.refusals.specs.declared.Refusal.TheVariants.{NoFirstBox}
 use Rattle.books.specs.declared.Listed.{Listed}
 use Rattle.books.specs.Books.{no_config, same_config}
 use Rattle.books.specs.Queried.{change_at}
@@ -12,7 +13,7 @@ use Rattle.devices.specs.declared.Phase.TheVariants.{Idle, Asks}
 use Rattle.devices.specs.declared.Letter.{Letter}
 use Rattle.devices.specs.declared.Message.{Message}
 use Rattle.devices.specs.declared.Message.TheVariants.{Empty, Request, Answer, Commit}
-use Rattle.devices.specs.declared.Outcome.TheVariants.{Done, Refused}
+use Rattle.devices.specs.declared.Accepted.TheVariants.{Done}
 use Rattle.devices.specs.Effects.{answer_of}
 use Rattle.devices.specs.Contents.{fresh_contents, fresh_tablet}
 use Rattle.state.specs.declared.Slot.{Slot}
@@ -35,7 +36,7 @@ fresh first =
 
 -- "Starting a run gives 12 or 0"
 unfoldable pub started : ℕ → Stepped
-started first = record { outcome = pick (eqb first 0) (Refused 12) Done; run = fresh first }
+started first = record { outcome = pick (eqb first 0) (Err NoFirstBox) (Ok Done); run = fresh first }
 
 -- what starting a run promises: the whole result, and so the answer that the caller is told
 pub record StartPromise (first : ℕ) (s : Stepped) : Type 0 where

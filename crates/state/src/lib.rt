@@ -9,7 +9,8 @@ ghost use Rattle.state.specs.Slots.{all};
 ghost use Rattle.state.specs.State.{fresh, StartPromise, names_listed, all_different, proper_contents, proper_phase, proper_tablet, proper_letter, proper_up_to, proper_desk, is_box};
 
 use books::{Book, Config, Listed};
-use devices::{Contents, Letter, Message, Outcome, Phase, Tablet};
+use devices::{Accepted, Contents, Letter, Message, Outcome, Phase, Tablet};
+use refusals::Refusal;
 
 #[derive(Clone, Copy)]
 pub struct Slot {
@@ -35,13 +36,13 @@ pub struct Stepped {
     pub run: Run,
 }
 
+#[tactic(auto, unfolding(crate::specs::State::fresh))]
 fn fresh_run(first: u16) -> Run
     ensures { result ≡ fresh first }
 {
-    let none = books::no_book();
-    let notes = none.notes;
+    let notes = books::no_book().notes;
     let book = Book {
-        notes: notes,
+        notes,
         config: Config {
             added: first,
             removed: 0,
@@ -56,9 +57,6 @@ fn fresh_run(first: u16) -> Run
         round: 0,
         phase: Phase::Idle,
     };
-    let slot = Slot {
-        message: Message::Empty,
-    };
     let change = Config {
         added: 0,
         removed: 0,
@@ -66,31 +64,34 @@ fn fresh_run(first: u16) -> Run
     Run {
         devices: [contents; 24],
         tablets: [tablet; 8],
-        slots: [slot; 128],
+        slots: [Slot {
+            message: Message::Empty,
+        }; 128],
         listed: Listed {
             changes: [change; 6],
             count: 0,
         },
         stopped: 0,
         kept: book,
-        first: first,
+        first,
     }
 }
 
 // A run with these first boxes: 12 where there are none.
+#[tactic(auto, unfolding(crate::specs::State::started))]
 pub fn start(first: u16) -> Stepped
     ensures { StartPromise first result }
 {
     let run = fresh_run(first);
     if first == 0 {
         return Stepped {
-            outcome: Outcome::Refused(12),
-            run: run,
+            outcome: Err(Refusal::NoFirstBox),
+            run,
         };
     }
     Stepped {
-        outcome: Outcome::Done,
-        run: run,
+        outcome: Ok(Accepted::Done),
+        run,
     }
 }
 
@@ -174,6 +175,7 @@ fn proper_tablets(tablets: [Tablet; 8], n: usize) -> bool
 }
 
 // Whether everything but the slots is proper.
+#[tactic(auto, unfolding(crate::specs::State::proper_desk))]
 pub fn proper_desk(listed: Listed, devices: [Contents; 24], tablets: [Tablet; 8]) -> bool
     ensures { result ≡ proper_desk listed devices tablets }
 {
@@ -187,14 +189,14 @@ pub fn proper_desk(listed: Listed, devices: [Contents; 24], tablets: [Tablet; 8]
 fn is_box(d: u8) -> bool
     ensures { result ≡ is_box d }
 {
-    (8 <= d) & (d < 24)
+    8 <= d && d < 24
 }
 
 fn proper_letter(n: usize, l: Letter) -> bool
     requires { n ≤ 6 }
     ensures { result ≡ proper_letter n l }
 {
-    (l.round <= 1023) & names_listed(n, l.contents.t)
+    l.round <= 1023 && names_listed(n, l.contents.t)
 }
 
 // Whether a message is proper where n changes are listed; of more than six no message is asked.
@@ -206,8 +208,8 @@ pub fn proper_message(n: usize, m: Message) -> bool
     }
     match m {
         Message::Empty => true,
-        Message::Request(l) => (l.from < 8) & is_box(l.to) & proper_letter(n, l),
-        Message::Answer(l) => is_box(l.from) & (l.to < 8) & proper_letter(n, l),
-        Message::Commit(c) => (c.from < 8) & (c.to < 24),
+        Message::Request(l) => l.from < 8 && is_box(l.to) && proper_letter(n, l),
+        Message::Answer(l) => is_box(l.from) && l.to < 8 && proper_letter(n, l),
+        Message::Commit(c) => c.from < 8 && c.to < 24,
     }
 }

@@ -1,5 +1,0 @@
-use Rattle.state.proofs.Cases.{fresh_is}
-use Rattle.state.proofs.fresh_run.Goals as goal
-
-pub returns : goal.returns
-returns c = fresh_is _ c.no_book-none.ensures
