@@ -8,6 +8,10 @@ use native.Mathlib.Omega.{arith}
 use lib.Dec.{ltb}
 use borrow.Author.Tests.{ltb-true, ltb-false, leb-true}
 use Rattle.sets.specs.Choice.{pick}
+use Rattle.std.specs.Prelude.{Option, Some, None, Result, Ok, Err}
+use Rattle.refusals.specs.declared.Refusal.{Refusal}
+use Rattle.refusals.specs.declared.Refusal.TheVariants.{NoState, OutOfRange, Stopped, NotAllowed, EmptySlot, SeventhChange, LastRound, NoRoom}
+use Rattle.refusals.specs.Refusals.{number}
 use Rattle.books.specs.declared.Config.{Config}
 use Rattle.books.specs.declared.Book.{Book}
 use Rattle.books.specs.declared.Listed.{Listed}
@@ -17,14 +21,12 @@ use Rattle.devices.specs.declared.Contents.{Contents}
 use Rattle.devices.specs.declared.Asking.{Asking}
 use Rattle.devices.specs.declared.Phase.{Phase}
 use Rattle.devices.specs.declared.Phase.TheVariants.{Idle, Asks}
-use Rattle.devices.specs.declared.Floor.{Floor}
-use Rattle.devices.specs.declared.Floor.TheVariants.{Unset, Set}
 use Rattle.devices.specs.declared.Letter.{Letter}
 use Rattle.devices.specs.declared.Notice.{Notice}
 use Rattle.devices.specs.declared.Message.{Message}
 use Rattle.devices.specs.declared.Message.TheVariants.{Empty, Request, Answer, Commit}
-use Rattle.devices.specs.declared.Outcome.{Outcome}
-use Rattle.devices.specs.declared.Outcome.TheVariants.{Done, Round, Committed, Adopted}
+use Rattle.devices.specs.declared.Accepted.{Accepted}
+use Rattle.devices.specs.declared.Accepted.TheVariants.{Done, Round, Committed, Adopted}
 use Rattle.devices.specs.declared.Sending.{Sending}
 use Rattle.devices.specs.declared.Here.{Here}
 use Rattle.devices.specs.declared.Effect.{Effect}
@@ -33,7 +35,7 @@ use Rattle.devices.specs.declared.Step.TheVariants.{Ask, Advance, Deliver, Lose,
 use Rattle.devices.specs.Contents.{merged, brought_by}
 use Rattle.devices.specs.Effects.{only, addressee, is_empty, no_sending, refuse}
 use Rattle.rules.specs.Table.{row, in_range}
-use Rattle.rules.specs.Rules.{asking, requests, begun, ask_with, ask_pair, ask_in, ask, heard, answer_to, marked, deliver, decided, allowed, steady, same_candidates, or_set, hands_back, commit, floor_inside, adopt_or, advance_from, advance_in, advance, leaves, lose, again, stop, ruled, effect_of}
+use Rattle.rules.specs.Rules.{asking, requests, begun, ask_with, ask_pair, ask_in, ask, heard, answer_to, marked, deliver, decided, allowed, steady, same_candidates, or_set, hands_back, commit, floor_inside, adopt_or, advance_from, advance_in, advance, leaves, lose, again, stop, ruled, or_refused, effect_of}
 use Rattle.state.specs.declared.Run.{Run}
 use Rattle.state.specs.State.{proper}
 use Rattle.parlour.specs.Steps.{slot_of, device_of, message_at, here_at}
@@ -41,10 +43,10 @@ use Rattle.parlour.specs.Steps.{slot_of, device_of, message_at, here_at}
 -- ---- The effects
 
 -- a round that begins with these contents, floor and listed changes
-abbrev pub begins : ℕ → Outcome → Floor → Listed → Contents → Here → Effect
-begins tablet outcome floor listed c h =
+abbrev pub begins : ℕ → Accepted → Option Book → Listed → Contents → Here → Effect
+begins tablet answer floor listed c h =
     record {
-      outcome = outcome;
+      outcome = Ok answer;
       contents = c;
       tablet = record { round = h.tablet.round + 1; phase = asking c floor };
       listed = listed;
@@ -75,9 +77,9 @@ pub data Naming (config pair : Config) (before : Listed) : Listed → ℕ → Ty
       → Naming config pair before (with_change before pair) (2 ^ before.count)
 
 -- what Advance makes of the floor
-pub data Floored (a : Asking) (h : Here) : Floor → Type 0 where
-  as_saved : (floor : Floor) → a.floor ≡ floor → Floored a h floor
-  now_set : a.floor ≡ Unset → allowed a h ≡ true → steady a h ≡ true → Floored a h (Set (decided h))
+pub data Floored (a : Asking) (h : Here) : Option Book → Type 0 where
+  as_saved : (floor : Option Book) → a.floor ≡ floor → Floored a h floor
+  now_set : a.floor ≡ None → allowed a h ≡ true → steady a h ≡ true → Floored a h (Some (decided h))
 
 -- what a step sends that changes no device: nothing, or a copy of its slot's message
 pub data Resends (m : Message) : Sending → Type 0 where
@@ -87,22 +89,22 @@ pub data Resends (m : Message) : Sending → Type 0 where
 -- a step, with the message of the slot that it names, may have this effect where the device stands so
 pub data Acts (proper : Bool) (h : Here) : Step → Message → Effect → Type 0 where
   -- by 1 only where the state is none
-  refused : (step : Step) (m : Message) (n : ℕ) → (proper ≡ true → 2 ≤ n) → Acts proper h step m (refuse n h)
+  refused : (step : Step) (m : Message) (refusal : Refusal) → (proper ≡ true → 2 ≤ number refusal) → Acts proper h step m (refuse refusal h)
   asks : (tablet own : ℕ) (pair : Config) (m : Message) (listed : Listed) (named : ℕ) → tablet ≤ 7 → h.tablet.phase ≡ Idle
       → h.tablet.round ≤ 1022 → Naming h.contents.v.config pair h.listed listed named
-      → Acts proper h (Ask tablet own pair) m (begins tablet Done Unset listed (took_in tablet own named listed h) h)
+      → Acts proper h (Ask tablet own pair) m (begins tablet Done None listed (took_in tablet own named listed h) h)
   hears_request : (slot : ℕ) (l : Letter) → Acts proper h (Deliver slot) (Request l)
       (heard (merged h.listed h.contents l.contents) h.tablet (answer_to l (merged h.listed h.contents l.contents)) h)
   hears_answer : (slot : ℕ) (l : Letter) → Acts proper h (Deliver slot) (Answer l)
       (heard (merged h.listed h.contents l.contents) (marked l h.tablet) no_sending h)
   hears_commit : (slot : ℕ) (n : Notice) → Acts proper h (Deliver slot) (Commit n)
       (heard (merged h.listed h.contents (brought_by n.book)) h.tablet no_sending h)
-  goes_on : (tablet : ℕ) (m : Message) (a : Asking) (floor : Floor) → tablet ≤ 7 → h.tablet.phase ≡ Asks a → h.tablet.round ≤ 1022
+  goes_on : (tablet : ℕ) (m : Message) (a : Asking) (floor : Option Book) → tablet ≤ 7 → h.tablet.phase ≡ Asks a → h.tablet.round ≤ 1022
       → Floored a h floor → Acts proper h (Advance tablet) m (begins tablet (Round (h.tablet.round + 1)) floor h.listed h.contents h)
   commits : (tablet : ℕ) (m : Message) (a : Asking) → tablet ≤ 7 → h.tablet.phase ≡ Asks a → allowed a h ≡ true → steady a h ≡ true
       → same_candidates a h ≡ true
       → Acts proper h (Advance tablet) m (hands_back (Committed (decided h)) (to_all tablet (decided h)) h)
-  adopts : (tablet : ℕ) (m : Message) (a : Asking) (floor : Floor) → tablet ≤ 7 → h.tablet.phase ≡ Asks a → Floored a h floor
+  adopts : (tablet : ℕ) (m : Message) (a : Asking) (floor : Option Book) → tablet ≤ 7 → h.tablet.phase ≡ Asks a → Floored a h floor
       → floor_inside floor h.contents.v ≡ true
       → Acts proper h (Advance tablet) m (hands_back (Adopted h.contents.v) no_sending h)
   changes_none : (step : Step) (m : Message) (frees stops : Bool) (sending : Sending) → (row step).asks ≡ false
@@ -117,99 +119,99 @@ either P true a b f g = f refl
 either P false a b f g = g refl
 
 -- begin a round: 9, 10 or the round
-begun-either : (P : Effect → Type 0) (tablet : ℕ) (outcome : Outcome) (floor : Floor) (listed : Listed) (c : Contents) (h : Here)
-    → ((n : ℕ) → 2 ≤ n → P (refuse n h)) → (h.tablet.round ≤ 1022 → P (begins tablet outcome floor listed c h))
-    → P (begun tablet outcome floor listed c h)
+begun-either : (P : Result Effect Refusal → Type 0) (tablet : ℕ) (answer : Accepted) (floor : Option Book) (listed : Listed) (c : Contents) (h : Here)
+    → ((refusal : Refusal) → 2 ≤ number refusal → P (Err refusal)) → (h.tablet.round ≤ 1022 → P (Ok (begins tablet answer floor listed c h)))
+    → P (begun tablet answer floor listed c h)
 unfolding begun
-begun-either P tablet outcome floor listed c h r f =
-    either P (ltb 1022 h.tablet.round) _ _ (λ e. r 9 (omega arith))
-    (λ e. either P (ltb h.free _) _ _ (λ d. r 10 (omega arith)) (λ d. f (ltb-false 1022 h.tablet.round e)))
+begun-either P tablet answer floor listed c h r f =
+    either P (ltb 1022 h.tablet.round) _ _ (λ e. r LastRound (omega arith))
+    (λ e. either P (ltb h.free _) _ _ (λ d. r NoRoom (omega arith)) (λ d. f (ltb-false 1022 h.tablet.round e)))
 
 module _ (proper : Bool) (m : Message) (h : Here) where
-  ask-acts : (tablet own : ℕ) (pair : Config) → tablet ≤ 7 → Acts proper h (Ask tablet own pair) m (ask tablet own pair h)
+  ask-acts : (tablet own : ℕ) (pair : Config) → tablet ≤ 7 → Acts proper h (Ask tablet own pair) m (or_refused h (ask tablet own pair h))
   unfolding ask ask_pair ask_with
   ask-acts tablet own pair l =
-      either P h.stopped _ _ (λ e. refused _ m 3 (λ p. omega arith)) (λ e. in-phase h.tablet.phase refl)
+      either P h.stopped _ _ (λ e. refused _ m Stopped (λ p. omega arith)) (λ e. in-phase h.tablet.phase refl)
     where
-      P : Effect → Type 0
-      P = Acts proper h (Ask tablet own pair) m
+      P : Result Effect Refusal → Type 0
+      P x = Acts proper h (Ask tablet own pair) m (or_refused h x)
 
       with-naming : (listed : Listed) (named : ℕ) → h.tablet.phase ≡ Idle → Naming h.contents.v.config pair h.listed listed named
           → P (ask_with tablet own named listed h)
       with-naming listed named i n =
-          begun-either P tablet Done Unset listed (took_in tablet own named listed h) h (λ n l. refused _ m n (λ p. l))
+          begun-either P tablet Done None listed (took_in tablet own named listed h) h (λ n l. refused _ m n (λ p. l))
           (λ r. asks tablet own pair m listed named l i r n)
 
       in-phase : (phase : Phase) → h.tablet.phase ≡ phase → P (ask_in tablet own pair phase h)
-      in-phase (Asks a) i = refused _ m 4 (λ p. omega arith)
+      in-phase (Asks a) i = refused _ m Refusal.Asking (λ p. omega arith)
       in-phase Idle i =
           either P (config_inside pair h.contents.v.config) _ _ (λ e. with-naming h.listed 0 i (contained e))
           (λ e. either P (ltb (place_of h.listed pair) h.listed.count) _ _
           (λ d. with-naming h.listed _ i (listed_already (ltb-true _ _ d)))
-          (λ d. either P (ltb 5 h.listed.count) _ _ (λ c. refused _ m 8 (λ p. omega arith))
+          (λ d. either P (ltb 5 h.listed.count) _ _ (λ c. refused _ m SeventhChange (λ p. omega arith))
           (λ c. with-naming (with_change h.listed pair) _ i (listed_now (ltb-false _ _ d) (ltb-false _ _ c)))))
 
-  advance-acts : (tablet : ℕ) → tablet ≤ 7 → Acts proper h (Advance tablet) m (advance tablet h)
+  advance-acts : (tablet : ℕ) → tablet ≤ 7 → Acts proper h (Advance tablet) m (or_refused h (advance tablet h))
   unfolding advance advance_from commit adopt_or
   advance-acts tablet l =
-      either P h.stopped _ _ (λ e. refused _ m 3 (λ p. omega arith)) (λ e. in-phase h.tablet.phase refl)
+      either P h.stopped _ _ (λ e. refused _ m Stopped (λ p. omega arith)) (λ e. in-phase h.tablet.phase refl)
     where
-      P : Effect → Type 0
-      P = Acts proper h (Advance tablet) m
+      P : Result Effect Refusal → Type 0
+      P x = Acts proper h (Advance tablet) m (or_refused h x)
 
-      adopt-or : (a : Asking) → h.tablet.phase ≡ Asks a → (floor : Floor) → Floored a h floor → P (adopt_or tablet floor h)
+      adopt-or : (a : Asking) → h.tablet.phase ≡ Asks a → (floor : Option Book) → Floored a h floor → P (adopt_or tablet floor h)
       adopt-or a i floor f =
           either P (floor_inside floor h.contents.v) _ _ (λ e. adopts tablet m a floor l i f e)
           (λ e. begun-either P tablet (Round (h.tablet.round + 1)) floor h.listed h.contents h (λ n l. refused _ m n (λ p. l))
           (λ r. goes_on tablet m a floor l i r f))
 
-      or_set_lem : (a : Asking) → allowed a h ≡ true → steady a h ≡ true → (floor : Floor) → a.floor ≡ floor → Floored a h (or_set floor (decided h))
-      or_set_lem a p q Unset e = now_set e p q
-      or_set_lem a p q (Set b) e = as_saved (Set b) e
+      or_set_lem : (a : Asking) → allowed a h ≡ true → steady a h ≡ true → (floor : Option Book) → a.floor ≡ floor → Floored a h (or_set floor (decided h))
+      or_set_lem a p q None e = now_set e p q
+      or_set_lem a p q (Some b) e = as_saved (Some b) e
 
       in-phase : (phase : Phase) → h.tablet.phase ≡ phase → P (advance_in tablet phase h)
-      in-phase Idle i = refused _ m 5 (λ p. omega arith)
+      in-phase Idle i = refused _ m Refusal.Idle (λ p. omega arith)
       in-phase (Asks a) i =
           either P (allowed a h) _ _
           (λ p. either P (steady a h) _ _
           (λ q. either P (same_candidates a h) _ _
-          (λ c. either P (ltb h.free 24) _ _ (λ d. refused _ m 10 (λ p. omega arith)) (λ d. commits tablet m a l i p q c))
+          (λ c. either P (ltb h.free 24) _ _ (λ d. refused _ m NoRoom (λ p. omega arith)) (λ d. commits tablet m a l i p q c))
           (λ c. adopt-or a i _ (or_set_lem a p q a.floor refl)))
           (λ q. adopt-or a i a.floor (as_saved a.floor refl)))
-          (λ p. refused _ m 6 (λ p. omega arith))
+          (λ p. refused _ m NotAllowed (λ p. omega arith))
 
-deliver-acts : (proper : Bool) (slot : ℕ) (m : Message) (h : Here) → Acts proper h (Deliver slot) m (deliver m h)
+deliver-acts : (proper : Bool) (slot : ℕ) (m : Message) (h : Here) → Acts proper h (Deliver slot) m (or_refused h (deliver m h))
 unfolding deliver
-deliver-acts proper slot Empty h = refused _ Empty 7 (λ p. omega arith)
+deliver-acts proper slot Empty h = refused _ Empty EmptySlot (λ p. omega arith)
 deliver-acts proper slot (Request l) h =
-    either (Acts proper h (Deliver slot) (Request l)) h.stopped _ _ (λ e. refused _ (Request l) 3 (λ p. omega arith)) (λ e. hears_request slot l)
+    either (λ x. Acts proper h (Deliver slot) (Request l) (or_refused h x)) h.stopped _ _ (λ e. refused _ (Request l) Stopped (λ p. omega arith)) (λ e. hears_request slot l)
 deliver-acts proper slot (Answer l) h =
-    either (Acts proper h (Deliver slot) (Answer l)) h.stopped _ _ (λ e. refused _ (Answer l) 3 (λ p. omega arith)) (λ e. hears_answer slot l)
+    either (λ x. Acts proper h (Deliver slot) (Answer l) (or_refused h x)) h.stopped _ _ (λ e. refused _ (Answer l) Stopped (λ p. omega arith)) (λ e. hears_answer slot l)
 deliver-acts proper slot (Commit n) h =
-    either (Acts proper h (Deliver slot) (Commit n)) h.stopped _ _ (λ e. refused _ (Commit n) 3 (λ p. omega arith)) (λ e. hears_commit slot n)
+    either (λ x. Acts proper h (Deliver slot) (Commit n) (or_refused h x)) h.stopped _ _ (λ e. refused _ (Commit n) Stopped (λ p. omega arith)) (λ e. hears_commit slot n)
 
-ruled-acts : (proper : Bool) (step : Step) (m : Message) (h : Here) → in_range (row step).names ≡ true → Acts proper h step m (ruled step m h)
+ruled-acts : (proper : Bool) (step : Step) (m : Message) (h : Here) → in_range (row step).names ≡ true → Acts proper h step m (or_refused h (ruled step m h))
 unfolding ruled lose again stop
 ruled-acts proper (Ask tablet own pair) m h e = ask-acts proper m h tablet own pair (leb-true tablet 7 e)
 ruled-acts proper (Advance tablet) m h e = advance-acts proper m h tablet (leb-true tablet 7 e)
 ruled-acts proper (Deliver slot) m h e = deliver-acts proper slot m h
 ruled-acts proper (Lose slot) m h e =
-    either (Acts proper h (Lose slot) m) (is_empty m) _ _ (λ d. refused _ m 7 (λ p. omega arith))
+    either (λ x. Acts proper h (Lose slot) m (or_refused h x)) (is_empty m) _ _ (λ d. refused _ m EmptySlot (λ p. omega arith))
     (λ d. changes_none _ m true false no_sending refl (inr refl) (inl refl) sends_nothing)
 ruled-acts proper (Repeat slot) m h e =
-    either (Acts proper h (Repeat slot) m) (is_empty m) _ _ (λ d. refused _ m 7 (λ p. omega arith))
-    (λ d. either (Acts proper h (Repeat slot) m) (ltb h.free 1) _ _ (λ c. refused _ m 10 (λ p. omega arith))
+    either (λ x. Acts proper h (Repeat slot) m (or_refused h x)) (is_empty m) _ _ (λ d. refused _ m EmptySlot (λ p. omega arith))
+    (λ d. either (λ x. Acts proper h (Repeat slot) m (or_refused h x)) (ltb h.free 1) _ _ (λ c. refused _ m NoRoom (λ p. omega arith))
     (λ c. changes_none _ m false false _ refl (inl refl) (inl refl) sends_again))
 ruled-acts proper (Stop device) m h e =
-    either (Acts proper h (Stop device) m) h.stopped _ _ (λ d. refused _ m 3 (λ p. omega arith))
+    either (λ x. Acts proper h (Stop device) m (or_refused h x)) h.stopped _ _ (λ d. refused _ m Stopped (λ p. omega arith))
     (λ d. changes_none _ m false true no_sending refl (inl refl) (inr refl) sends_nothing)
 
 pub acts : (proper : Bool) (step : Step) (m : Message) (h : Here) → Acts proper h step m (effect_of proper step m h)
 unfolding effect_of
 acts proper step m h =
-    either (Acts proper h step m) proper _ _
-    (λ e. either (Acts proper h step m) (in_range (row step).names) _ _ (ruled-acts proper step m h) (λ d. refused step m 2 (λ p. omega arith)))
-    (λ e. refused step m 1 (λ p. absurd (true≢false (sym p ∙ e))))
+    either (λ x. Acts proper h step m (or_refused h x)) proper _ _
+    (λ e. either (λ x. Acts proper h step m (or_refused h x)) (in_range (row step).names) _ _ (ruled-acts proper step m h) (λ d. refused step m OutOfRange (λ p. omega arith)))
+    (λ e. refused step m NoState (λ p. absurd (true≢false (sym p ∙ e))))
 
 -- ---- A step of a run
 

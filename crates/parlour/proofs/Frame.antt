@@ -12,6 +12,7 @@ use lib.ListN.{length, get_or, length-set}
 use lib.Seq.{get_or-set_same, get_or-set_other, set-get_or}
 use Rattle.sets.specs.Choice.{pick}
 use Rattle.sets.specs.Sets.{has}
+use Rattle.refusals.specs.declared.Refusal.{Refusal}
 use Rattle.devices.specs.declared.Contents.{Contents}
 use Rattle.devices.specs.declared.Tablet.{Tablet}
 use Rattle.devices.specs.declared.Message.{Message}
@@ -132,7 +133,7 @@ sized-applied slot d e r s l =
 -- ---- A refusal
 
 -- the parts are stored as they were read, in any state
-pub refusal-leaves : (n slot d : ℕ) (r : Run) → (applied slot d (refuse n (here_at d r)) r).run ≡ r
+pub refusal-leaves : (n : Refusal) (slot d : ℕ) (r : Run) → (applied slot d (refuse n (here_at d r)) r).run ≡ r
 unfolding applied refuse here_at laid copies
 refusal-leaves n slot d r =
     ap₂ (λ (devices : List Contents) (tablets : List Tablet).

@@ -20,13 +20,15 @@ use Rattle.books.proofs.BookLaws.{books-joined}
 use Rattle.devices.specs.declared.Contents.{Contents}
 use Rattle.devices.specs.declared.Tablet.{Tablet}
 use Rattle.devices.specs.declared.Message.{Message}
-use Rattle.devices.specs.declared.Outcome.{Outcome}
-use Rattle.devices.specs.declared.Outcome.TheVariants.{Done, Round, Committed, Adopted, Refused}
+use Rattle.std.specs.Prelude.{Ok, Err}
+use Rattle.refusals.specs.declared.Refusal.{Refusal}
+use Rattle.refusals.specs.declared.Refusal.TheVariants.{NoState, OutOfRange}
+use Rattle.devices.specs.declared.Accepted.TheVariants.{Done, Round, Committed, Adopted}
 use Rattle.devices.specs.declared.Here.{Here}
 use Rattle.devices.specs.declared.Effect.{Effect}
 use Rattle.devices.specs.declared.Step.{Step}
 use Rattle.devices.specs.Contents.{fresh_contents, fresh_tablet}
-use Rattle.devices.specs.Effects.{kept_after, refuse}
+use Rattle.devices.specs.Effects.{Outcome, kept_after, refuse}
 use Rattle.rules.specs.Table.{row, in_range, slot_named, device_named}
 use Rattle.rules.specs.Rules.{effect_of}
 use Rattle.state.specs.declared.Run.{Run}
@@ -88,11 +90,11 @@ stays-stopped false stopped d q h = h
 stays-stopped true stopped d q h = digit-has q (union stopped (2 ^ d)) (union-has-left q stopped (2 ^ d) (has-digit q stopped h))
 
 kept-grows : (answer : Outcome) (kept : Book) → book_inside kept (kept_after answer kept) ≡ true
-kept-grows Done kept = contained-refl books-joined kept
-kept-grows (Round n) kept = contained-refl books-joined kept
-kept-grows (Committed b) kept = contained-left books-joined kept b
-kept-grows (Adopted b) kept = contained-left books-joined kept b
-kept-grows (Refused n) kept = contained-refl books-joined kept
+kept-grows (Ok Done) kept = contained-refl books-joined kept
+kept-grows (Ok (Round n)) kept = contained-refl books-joined kept
+kept-grows (Ok (Committed b)) kept = contained-left books-joined kept b
+kept-grows (Ok (Adopted b)) kept = contained-left books-joined kept b
+kept-grows (Err refusal) kept = contained-refl books-joined kept
 
 -- ---- The step
 
@@ -119,10 +121,10 @@ same-stay step r =
     }
 
 -- only a refusal has a refusal's outcome
-acts-refused : {known : Bool} (n : ℕ) (h : Here) {step : Step} {m : Message} {e : Effect} → Acts known h step m e → e.outcome ≡ Refused n
+acts-refused : {known : Bool} (n : Refusal) (h : Here) {step : Step} {m : Message} {e : Effect} → Acts known h step m e → e.outcome ≡ Err n
     → e ≡ refuse n h
 unfolding refuse
-acts-refused n h (refused step m k b) q = let i : k ≡ n = cc in ap (λ (x : ℕ). refuse x h) i
+acts-refused n h (refused step m k b) q = let i : k ≡ n = cc in ap (λ (x : Refusal). refuse x h) i
 acts-refused n h (asks tablet own pair m listed named l i r x) q = cc
 acts-refused n h (hears_request slot l) q = cc
 acts-refused n h (hears_answer slot l) q = cc
@@ -146,11 +148,11 @@ module _ (step : Step) (r : Run) where
   abbrev e : Effect
   e = effect_for step r
 
-  refusal-run : (n : ℕ) → e ≡ refuse n h → (taken step r).run ≡ r
+  refusal-run : (n : Refusal) → e ≡ refuse n h → (taken step r).run ≡ r
   unfolding taken taken_if
   refusal-run n q = ap (λ (x : Effect). (applied (slot_of step) d x r).run) q ∙ refusal-leaves n (slot_of step) d r
 
-  pub refused-leaves : (n : ℕ) → (taken step r).outcome ≡ Refused n → (taken step r).run ≡ r
+  pub refused-leaves : (n : Refusal) → (taken step r).outcome ≡ Err n → (taken step r).run ≡ r
   unfolding taken taken_if applied
   refused-leaves n q = refusal-run n (acts-refused n h (acts-for step r) q)
 
@@ -182,12 +184,12 @@ module _ (step : Step) (r : Run) where
   unfolding effect_of
   others_stay = go (proper r) refl (in_range (row step).names) refl
     where
-      untouched : (n : ℕ) → e ≡ refuse n h → OthersStay step r (taken step r).run
+      untouched : (n : Refusal) → e ≡ refuse n h → OthersStay step r (taken step r).run
       untouched n q = subst (OthersStay step r) (sym (refusal-run n q)) (same-stay step r)
 
       go : (ok : Bool) → proper r ≡ ok → (in-range : Bool) → in_range (row step).names ≡ in-range → OthersStay step r (taken step r).run
-      go false p b i = untouched 1 (rw p)
-      go true p false i = untouched 2 (rw (p, i))
+      go false p b i = untouched NoState (rw p)
+      go true p false i = untouched OutOfRange (rw (p, i))
       go true p true i =
           let message = (proper-parts r p).messages (slot_of step) in
           left-stay (acts-leave h r.listed.count (slot_of step) d message (slot-named (row step).names i)

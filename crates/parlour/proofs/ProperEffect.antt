@@ -7,10 +7,12 @@ use native.Mathlib.Nat.{lt_of_le_of_lt}
 use native.Mathlib.Omega.{arith}
 use lib.Dec.{ltb, leb}
 use borrow.Author.Tests.{lt-ltb, le-leb}
+use Rattle.std.specs.Prelude.{Option}
 use Rattle.sets.specs.Choice.{pick, both}
 use Rattle.sets.specs.Sets.{has, union}
 use Rattle.sets.proofs.SetLaws.{has-digit, union-lt, inside-le}
 use Rattle.sets.proofs.BoundedLaws.{both_left, both_right, both-on}
+use Rattle.books.specs.declared.Book.{Book}
 use Rattle.books.specs.declared.Listed.{Listed}
 use Rattle.books.specs.Books.{join_configs}
 use Rattle.books.specs.Queried.{asked_boxes}
@@ -19,11 +21,10 @@ use Rattle.devices.specs.declared.Contents.{Contents}
 use Rattle.devices.specs.declared.Tablet.{Tablet}
 use Rattle.devices.specs.declared.Phase.{Phase}
 use Rattle.devices.specs.declared.Phase.TheVariants.{Idle, Asks}
-use Rattle.devices.specs.declared.Floor.{Floor}
 use Rattle.devices.specs.declared.Letter.{Letter}
-use Rattle.devices.specs.declared.Outcome.{Outcome}
 use Rattle.devices.specs.declared.Message.{Message}
 use Rattle.devices.specs.declared.Message.TheVariants.{Empty, Request, Answer, Commit}
+use Rattle.devices.specs.declared.Accepted.{Accepted}
 use Rattle.devices.specs.declared.Sending.{Sending}
 use Rattle.devices.specs.declared.Here.{Here}
 use Rattle.devices.specs.declared.Effect.{Effect}
@@ -127,10 +128,10 @@ resends-proper n h sends_nothing d u i = refl
 resends-proper n {m} h sends_again d u i = repeated-proper n m h d i
 
 -- a round that begins sends requests from a tablet to boxes
-pub begins-proper : (tablet : ℕ) (outcome : Outcome) (floor : Floor) (listed : Listed) (c : Contents) (h : Here) → tablet ≤ 7
+pub begins-proper : (tablet : ℕ) (answer : Accepted) (floor : Option Book) (listed : Listed) (c : Contents) (h : Here) → tablet ≤ 7
     → h.tablet.round ≤ 1022 → h.listed.count ≤ listed.count → listed.count ≤ 6 → all_different listed ≡ true
-    → c.t < 2 ^ listed.count → ProperEffect h.listed.count (begins tablet outcome floor listed c h)
-begins-proper tablet outcome floor listed c h l r more few different fits =
+    → c.t < 2 ^ listed.count → ProperEffect h.listed.count (begins tablet answer floor listed c h)
+begins-proper tablet answer floor listed c h l r more few different fits =
     record {
       more = more;
       few = few;

@@ -17,14 +17,13 @@ use Rattle.sets.proofs.BoundedLaws.{both-on}
 use Rattle.books.specs.Queried.{change_at}
 use Rattle.devices.specs.declared.Contents.{Contents}
 use Rattle.devices.specs.declared.Tablet.{Tablet}
-use Rattle.devices.specs.declared.Outcome.{Outcome}
 use Rattle.devices.specs.declared.Message.{Message}
 use Rattle.devices.specs.declared.Sending.{Sending}
 use Rattle.devices.specs.declared.Here.{Here}
 use Rattle.devices.specs.declared.Effect.{Effect}
 use Rattle.devices.specs.declared.Step.{Step}
 use Rattle.devices.specs.Contents.{merged}
-use Rattle.devices.specs.Effects.{number_of, addressed, refuse}
+use Rattle.devices.specs.Effects.{Outcome, number_of, addressed, refuse}
 use Rattle.state.specs.declared.Run.{Run}
 use Rattle.state.specs.State.{all_different, proper_tablet, is_tablet, is_box, proper_message, proper}
 use Rattle.state.proofs.StateLaws.{Sized, Proper, proper-parts, parts-proper, letter-fits}

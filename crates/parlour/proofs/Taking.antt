@@ -5,9 +5,11 @@ use mathlib.Core.List.{List}
 use mathlib.Core.Path.{◌≡◌, refl, ap, ◌∙◌}
 use mathlib.Core.Logic.{◌⊎◌, inl, inr}
 use native.Mathlib.Omega.{arith}
-use lib.Dec.{ltb, eqb}
+use lib.Dec.{ltb}
 use lib.ListN.{get_or, set, length, drop, length-set}
 use lib.Seq.{set-get_or}
+use Rattle.std.specs.Prelude.{Err}
+use Rattle.refusals.specs.declared.Refusal.TheVariants.{NoState, OutOfRange}
 use Rattle.sets.specs.Choice.{pick, both}
 use Rattle.sets.specs.Sets.{has, union}
 use Rattle.books.specs.declared.Book.{Book}
@@ -17,7 +19,7 @@ use Rattle.devices.specs.declared.Effect.{Effect}
 use Rattle.devices.specs.declared.Step.{Step}
 use Rattle.devices.specs.declared.Step.TheVariants.{Stop}
 use Rattle.devices.specs.Contents.{fresh_contents, fresh_tablet}
-use Rattle.devices.specs.Effects.{answer_of, number_of, kept_after, addressed, copies, refuse}
+use Rattle.devices.specs.Effects.{kept_after, addressed, copies, refuse}
 use Rattle.rules.specs.Table.{row}
 use Rattle.rules.specs.Rules.{effect_of}
 use Rattle.rules.proofs.FreeSlots.{effect-free}
@@ -25,9 +27,7 @@ use Rattle.state.specs.declared.Slot.{Slot}
 use Rattle.state.specs.declared.Run.{Run}
 use Rattle.state.specs.declared.Stepped.{Stepped}
 use Rattle.state.specs.Slots.{empty_slot, is_free, many, laid, freed_if}
-use Rattle.parlour.specs.Steps.{within, slot_of, device_of, message_at, here_at, applied, taken_at, taken_if, taken, StepPromise, may_unplug, unplug_answer, UnplugPromise}
-use Rattle.state.specs.State.{proper}
-use Rattle.parlour.specs.declared.Unplug.{Unplug}
+use Rattle.parlour.specs.Steps.{within, slot_of, device_of, message_at, here_at, applied, taken_at, taken_if}
 use Rattle.state.proofs.SlotLaws.{holding, many-end}
 use Rattle.parlour.proofs.Passes.{nothing-to-lay, Laying, lay-skip, lay-pass, lay-store, lay_done}
 
@@ -186,16 +186,7 @@ counted-free step r free i {bound} n b l e t =
     omega (arith, e, many-end is_free r.slots i (omega arith))
 
 -- a step that no state takes is refused by 2, and by 1 only where the state is none
-pub stop-24 : (ok : Bool) (r : Run) → eqb (number_of (taken_if ok (Stop 24) r).outcome) 2 ≡ ok
+pub stop_24 : (ok : Bool) (r : Run) → (taken_if ok (Stop 24) r).outcome ≡ Err (pick ok OutOfRange NoState)
 unfolding taken_if applied effect_of refuse
-stop-24 true r = refl
-stop-24 false r = refl
-
--- ---- What the public calls promise
-
-pub step-promise : (step : Step) (r : Run) (s : Stepped) → s ≡ taken_if (proper r) step r → StepPromise step r s
-unfolding taken
-step-promise step r s e = record { settled = e; told = ap (λ (x : Stepped). answer_of x.outcome) e }
-
-pub unplug-promise : (r : Run) (box : ℕ) (u : Unplug) → u ≡ may_unplug r box → UnplugPromise r box u
-unplug-promise r box u e = record { settled = e; told = ap unplug_answer e }
+stop_24 true r = refl
+stop_24 false r = refl

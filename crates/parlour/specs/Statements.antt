@@ -2,9 +2,10 @@
 -- a refusal leaves the state, a step leaves all others as before, a run stays proper, contents only grow, T is outstanding,
 -- rounds go up by 1, new messages take the lowest free slots.
 -- It is proved in proofs/Statements, of every state and every step; where a run is meant, it says so.
-use Rattle.std.specs.Prelude.{ℕ, ◌+◌, ◌<◌, ◌≤◌, true, false, not, List, [], ◌∷◌, ◌⊎◌, ◌≡◌, get_or, take, length}
+use Rattle.std.specs.Prelude.{ℕ, ◌+◌, ◌<◌, ◌≤◌, true, false, not, List, [], ◌∷◌, ◌⊎◌, ◌≡◌, get_or, take, length, Bool, Result, Ok, Err}
 use Rattle.sets.specs.Settles.{Settles}
 use Rattle.sets.specs.Sets.{has}
+use Rattle.refusals.specs.declared.Refusal.{Refusal}
 use Rattle.books.specs.declared.Listed.{Listed}
 use Rattle.books.specs.Books.{notes_inside, config_inside, book_inside}
 use Rattle.books.specs.Queried.{change_at}
@@ -12,19 +13,17 @@ use Rattle.devices.specs.declared.Contents.{Contents}
 use Rattle.devices.specs.declared.Tablet.{Tablet}
 use Rattle.devices.specs.declared.Message.{Message}
 use Rattle.devices.specs.declared.Message.TheVariants.{Empty}
-use Rattle.devices.specs.declared.Outcome.{Outcome}
-use Rattle.devices.specs.declared.Outcome.TheVariants.{Done, Round, Refused}
+use Rattle.devices.specs.declared.Accepted.TheVariants.{Done, Round}
 use Rattle.devices.specs.declared.Step.{Step}
 use Rattle.devices.specs.declared.Step.TheVariants.{Advance}
 use Rattle.devices.specs.Contents.{fresh_contents, fresh_tablet, merged}
-use Rattle.devices.specs.Effects.{number_of, is_empty}
+use Rattle.devices.specs.Effects.{Outcome, number_of, is_empty}
 use Rattle.rules.specs.Table.{row, slot_named, device_named, is_ask_of}
 use Rattle.state.specs.declared.Slot.{Slot}
 use Rattle.state.specs.declared.Run.{Run}
 use Rattle.state.specs.declared.Stepped.{Stepped}
 use Rattle.state.specs.Slots.{empty_slot, is_free, all, many, laid}
 use Rattle.state.specs.State.{fresh, proper}
-use Rattle.parlour.specs.declared.Unplug.{Unplug}
 use Rattle.parlour.specs.Steps.{slot_of, message_at, taken, StepPromise, UnplugPromise}
 
 -- what a device keeps, and a tablet's own part
@@ -46,12 +45,12 @@ pub record Settled : Type 0 where
   pub lose : (run : Run) (slot : ℕ) → Settles (λ (r : Stepped). StepPromise (Step.Lose slot) run r)
   pub repeat : (run : Run) (slot : ℕ) → Settles (λ (r : Stepped). StepPromise (Step.Repeat slot) run r)
   pub stop : (run : Run) (device : ℕ) → Settles (λ (r : Stepped). StepPromise (Step.Stop device) run r)
-  pub may_unplug : (run : Run) (number : ℕ) → Settles (λ (r : Unplug). UnplugPromise run number r)
+  pub may_unplug : (run : Run) (number : ℕ) → Settles (λ (r : Result Bool Refusal). UnplugPromise run number r)
 
 -- ---- "A refusal carries no book, row or length; state and buffers stay as given."
 
 abbrev pub RefusalsLeave : Type 0
-RefusalsLeave = (step : Step) (r : Run) (n : ℕ) → (taken step r).outcome ≡ Refused n → (taken step r).run ≡ r
+RefusalsLeave = (step : Step) (r : Run) (refusal : Refusal) → (taken step r).outcome ≡ Err refusal → (taken step r).run ≡ r
 
 -- ---- "In one step every other device, slot and listed change is as before."
 
@@ -132,7 +131,7 @@ AllOutstanding = (first : ℕ) (steps : List Step) (d : ℕ) → d < 24
 
 -- the step began round n of tablet q: an ask of it that is done, or its Advance, which answers with the round
 abbrev pub Began : Step → Outcome → ℕ → ℕ → Type 0
-Began step answer q n = ((is_ask_of q step ≡ true) × (answer ≡ Done)) ⊎ ((step ≡ Advance q) × (answer ≡ Round n))
+Began step answer q n = ((is_ask_of q step ≡ true) × (answer ≡ Ok Done)) ⊎ ((step ≡ Advance q) × (answer ≡ Ok (Round n)))
 
 -- a round is the old one, or the old one plus 1 where the step began it
 abbrev pub RoundMoves : Step → Outcome → ℕ → ℕ → ℕ → Type 0

@@ -1,8 +1,11 @@
 -- One step of a run: the rule's effect on the acting device's parts, applied to the run; and the question whether a box may be unplugged.
-use Rattle.std.specs.Prelude.{ℕ, ◌^◌, Bool, true, false, ltb, ◌≡◌, get_or, set}
+use Rattle.std.specs.Prelude.{ℕ, ◌^◌, Bool, ltb, ◌≡◌, get_or, set, Result, Ok, Err}
 use Rattle.std.proofs.Math.Option.{Option, none, some}
 use Rattle.sets.specs.Choice.{pick}
 use Rattle.sets.specs.Sets.{has, union}
+use Rattle.refusals.specs.declared.Refusal.{Refusal}
+use Rattle.refusals.specs.declared.Refusal.TheVariants.{NoState, OutOfRange}
+use Rattle.refusals.specs.Refusals.{number}
 use Rattle.devices.specs.declared.Message.{Message}
 use Rattle.devices.specs.declared.Here.{Here}
 use Rattle.devices.specs.declared.Effect.{Effect}
@@ -13,8 +16,6 @@ use Rattle.rules.specs.Table.{row, slot_named, device_named}
 use Rattle.rules.specs.Rules.{effect_of}
 use Rattle.state.specs.declared.Run.{Run}
 use Rattle.state.specs.declared.Stepped.{Stepped}
-use Rattle.parlour.specs.declared.Unplug.{Unplug}
-use Rattle.parlour.specs.declared.Unplug.TheVariants.{May, MayNot, Unanswered}
 use Rattle.state.specs.Slots.{empty_slot, is_free, many, laid, freed_if}
 use Rattle.state.specs.State.{proper}
 
@@ -88,23 +89,20 @@ pub record StepPromise (step : Step) (r : Run) (s : Stepped) : Type 0 where
 -- ---- The unplug question
 
 -- "The answer is yes exactly when it is in the removed set of the kept join"; "The unplug question gives 1, then 2"
-unfoldable pub may_unplug : Run → ℕ → Unplug
+unfoldable pub may_unplug : Run → ℕ → Result Bool Refusal
 may_unplug r box =
-    pick (proper r)
-    (pick (ltb 15 box) (Unanswered 2) (pick (has box r.kept.config.removed) May MayNot))
-    (Unanswered 1)
+    pick (proper r) (pick (ltb 15 box) (Err OutOfRange) (Ok (has box r.kept.config.removed))) (Err NoState)
 
 -- the answer that each case is: its number, and yes or no
 pub record UnplugAnswer : Type 0 where
   pub number : ℕ
   pub may : Option Bool
 
-abbrev pub unplug_answer : Unplug → UnplugAnswer
-unplug_answer May = record { number = 0; may = some true }
-unplug_answer MayNot = record { number = 0; may = some false }
-unplug_answer (Unanswered n) = record { number = n; may = none }
+abbrev pub unplug_answer : Result Bool Refusal → UnplugAnswer
+unplug_answer (Ok may) = record { number = 0; may = some may }
+unplug_answer (Err refusal) = record { number = number refusal; may = none }
 
 -- what the question promises
-pub record UnplugPromise (r : Run) (box : ℕ) (u : Unplug) : Type 0 where
+pub record UnplugPromise (r : Run) (box : ℕ) (u : Result Bool Refusal) : Type 0 where
   pub settled : u ≡ may_unplug r box
   pub told : unplug_answer u ≡ unplug_answer (may_unplug r box)

@@ -12,16 +12,9 @@ ghost use Rattle.parlour.specs.Steps.{within, slot_of, device_of, taken_if, Step
 
 use books::{Config, Listed};
 use devices::{Contents, Here, Message, Step, Tablet};
+use refusals::Refusal;
 use rules::Named;
 use state::{Run, Slot, Stepped};
-
-// Whether a box may be unplugged, or the number of a refusal.
-#[derive(Clone, Copy)]
-pub enum Unplug {
-    May,
-    MayNot,
-    Unanswered(u8),
-}
 
 // A place below a bound, 0 where there is no such place.
 fn place_within(bound: usize, n: u8) -> usize
@@ -53,7 +46,7 @@ fn device_of(step: Step, m: Message) -> usize
     let names = a.names;
     match names {
         Named::Tablet(tablet) => place_within(24, tablet),
-        Named::Slot(_) => place_within(24, devices::addressee_of(m)),
+        Named::Slot(_) => place_within(24, m.addressee()),
         Named::Device(device) => place_within(24, device),
     }
 }
@@ -140,7 +133,7 @@ fn take(mut run: Run, known: bool, step: Step) -> Stepped
     while i < end {
         let s = run.slots[i];
         let m = s.message;
-        if devices::is_empty(m) {
+        if m.is_empty() {
             free += 1;
         }
         i += 1;
@@ -178,8 +171,8 @@ fn take(mut run: Run, known: bool, step: Step) -> Stepped
         if (to >> q) % 2 == 1 {
             let s = run.slots[p];
             let m = s.message;
-            if devices::is_empty(m) {
-                let copy = devices::address(sent, q as u8);
+            if m.is_empty() {
+                let copy = sent.addressed_to(q as u8);
                 let filled = Slot { message: copy };
                 run.slots[p] = filled;
                 q += 1;
@@ -196,6 +189,7 @@ fn take(mut run: Run, known: bool, step: Step) -> Stepped
 }
 
 // One step of a run.
+#[tactic(auto, unfolding(crate::specs::Steps::taken))]
 pub fn step(run: Run, step: Step) -> Stepped
     ensures { StepPromise step run result }
 {
@@ -205,16 +199,12 @@ pub fn step(run: Run, step: Step) -> Stepped
 pub fn ask(run: Run, tablet: u8, notes: u16, added: u16, removed: u16) -> Stepped
     ensures { StepPromise (Step.Ask tablet notes (record { added = added; removed = removed })) run result }
 {
-    take(
+    step(
         run,
-        false,
         Step::Ask {
-            tablet: tablet,
-            notes: notes,
-            pair: Config {
-                added: added,
-                removed: removed,
-            },
+            tablet,
+            notes,
+            pair: Config { added, removed },
         },
     )
 }
@@ -222,55 +212,52 @@ pub fn ask(run: Run, tablet: u8, notes: u16, added: u16, removed: u16) -> Steppe
 pub fn advance(run: Run, tablet: u8) -> Stepped
     ensures { StepPromise (Step.Advance tablet) run result }
 {
-    take(run, false, Step::Advance(tablet))
+    step(run, Step::Advance(tablet))
 }
 
 pub fn deliver(run: Run, slot: u8) -> Stepped
     ensures { StepPromise (Step.Deliver slot) run result }
 {
-    take(run, false, Step::Deliver(slot))
+    step(run, Step::Deliver(slot))
 }
 
 pub fn lose(run: Run, slot: u8) -> Stepped
     ensures { StepPromise (Step.Lose slot) run result }
 {
-    take(run, false, Step::Lose(slot))
+    step(run, Step::Lose(slot))
 }
 
 pub fn repeat(run: Run, slot: u8) -> Stepped
     ensures { StepPromise (Step.Repeat slot) run result }
 {
-    take(run, false, Step::Repeat(slot))
+    step(run, Step::Repeat(slot))
 }
 
 pub fn stop(run: Run, device: u8) -> Stepped
     ensures { StepPromise (Step.Stop device) run result }
 {
-    take(run, false, Step::Stop(device))
+    step(run, Step::Stop(device))
 }
 
 // Whether a state is one: a step that no state takes is refused by 1 only where the state is none, else by 2.
+#[tactic(auto, using(crate::proofs::Taking::stop_24))]
 fn is_proper(run: Run) -> bool
     ensures { result ≡ proper run }
 {
-    let s = take(run, false, Step::Stop(24));
-    let outcome = s.outcome;
-    devices::number_of(outcome) == 2
+    let refused = take(run, false, Step::Stop(24));
+    refused.outcome.err() == Some(Refusal::OutOfRange)
 }
 
 // Whether a box may be unplugged: exactly where it is in the removed set of the kept join.
-pub fn may_unplug(run: Run, number: u8) -> Unplug
+#[tactic(auto, unfolding(crate::specs::Steps::may_unplug))]
+pub fn may_unplug(run: Run, number: u8) -> Result<bool, Refusal>
     ensures { UnplugPromise run number result }
 {
-    let kept = run.kept;
-    if is_proper(run) {
-        if 15 < number {
-            return Unplug::Unanswered(2);
-        }
-        if (kept.config.removed >> number) % 2 == 1 {
-            return Unplug::May;
-        }
-        return Unplug::MayNot;
+    if !is_proper(run) {
+        return Err(Refusal::NoState);
     }
-    Unplug::Unanswered(1)
+    if 15 < number {
+        return Err(Refusal::OutOfRange);
+    }
+    Ok((run.kept.config.removed >> number) % 2 == 1)
 }

@@ -49,7 +49,7 @@ loop-p-preserved-then-to-q-eq1 c =
     let b = eq-eqb _ _ c.if-to-q-eq1.true in
     let e = c.is_empty-then-to-q-eq1.ensures in
     elim c.if-is_empty-2.branch [
-      | then-is_empty-2 w ↦ pass-free _ _ _ s.p s.q s.run l s.invariant b (sym e ∙ w.if-is_empty-2.true) w.address-copy.ensures w.run-is w.q-is
+      | then-is_empty-2 w ↦ pass-free _ _ _ s.p s.q s.run l s.invariant b (sym e ∙ w.if-is_empty-2.true) w.addressed_to-copy.ensures w.run-is w.q-is
       | else-is_empty-2 w ↦ pass-filled _ _ _ s.p s.q s.run l s.invariant b (sym e ∙ w.if-is_empty-2.false) w.run-is w.q-is
     ]
 
