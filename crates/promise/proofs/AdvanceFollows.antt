@@ -1,10 +1,12 @@
 -- An Advance is a new round (`round-follows`), a commit (`commit-follows`) or an adoption (`adopt-follows`) of the agreement argument.
+use Rattle.std.specs.Prelude.{Option, Some, None, Ok}
 use Prim.Native.Nat.{ℕ, suc, ◌+◌, ◌≤◌}
 use mathlib.Core.Bool.{true, false≢true}
 use mathlib.Core.Path.{◌≡◌, refl, sym, ap, subst, ◌∙◌}
 use mathlib.Core.Logic.{inl, inr}
 use mathlib.Core.List.{List, ◌∷◌}
-use mathlib.Core.Option.{Option, some}
+use mathlib.Core.Option.{some}
+use mathlib.Core.Option as M
 use native.Mathlib.Numerals.{add-one}
 use native.Mathlib.Omega.{arith}
 use borrow.Author.Tests.{eqb-true}
@@ -18,14 +20,11 @@ use Rattle.devices.specs.declared.Asking.{Asking}
 use Rattle.devices.specs.declared.Tablet.{Tablet}
 use Rattle.devices.specs.declared.Phase.{Phase}
 use Rattle.devices.specs.declared.Phase.TheVariants.{Idle, Asks}
-use Rattle.devices.specs.declared.Floor.{Floor}
-use Rattle.devices.specs.declared.Floor.TheVariants.{Unset, Set}
-use Rattle.devices.specs.declared.Outcome.{Outcome}
-use Rattle.devices.specs.declared.Outcome.TheVariants.{Round, Committed, Adopted}
+use Rattle.devices.specs.declared.Accepted.TheVariants.{Round, Committed, Adopted}
 use Rattle.devices.specs.declared.Here.{Here}
 use Rattle.devices.specs.declared.Effect.{Effect}
 use Rattle.devices.specs.declared.Step.TheVariants.{Advance}
-use Rattle.devices.specs.Effects.{no_sending}
+use Rattle.devices.specs.Effects.{Outcome, no_sending}
 use Rattle.rules.specs.Rules.{asking as asking-now, decided, allowed, steady, same_candidates, floor_inside, hands_back}
 use Rattle.state.specs.declared.Run.{Run}
 use Rattle.parlour.specs.Steps.{within, here_at, applied}
@@ -119,21 +118,21 @@ module _ {first : AbstractBook parlour} {r : Run} {h : List Event} (now : Standi
   decided-as =
       λ i. record { notes = (device_at d r).candidates; configuration = joined_as r.listed (device_at d r).v.config (device_at d r).t i }
 
-  floored-as : {floor : Floor} → Floored a (here_at d r) floor → AbstractFloored x alike.pending (as_floor floor)
+  floored-as : {floor : Option Book} → Floored a (here_at d r) floor → AbstractFloored x alike.pending (as_floor floor)
   floored-as (as_saved floor e) =
-      subst (λ (w : Option (AbstractBook parlour)). AbstractFloored x alike.pending w) (alike.like.floor ∙ ap as_floor e) stays
+      subst (λ (w : M.Option (AbstractBook parlour)). AbstractFloored x alike.pending w) (alike.like.floor ∙ ap as_floor e) stays
   floored-as (now_set e p q) =
       subst (λ (w : AbstractBook parlour). AbstractFloored x alike.pending (some w)) decided-as
       (set (alike.like.floor ∙ ap as_floor e) (steady-as q) (allowed-here p q))
 
   -- ---- A new round (line 15, and lines 4 to 8)
 
-  module _ (floor : Floor) where
+  module _ (floor : Option Book) where
     abbrev begins_round : Effect
     begins_round = begins tablet (Round ((here_at d r).tablet.round + 1)) floor r.listed (device_at d r) (here_at d r)
 
     abbrev event : Event
-    event = record { step = Advance tablet; answer = Round ((here_at d r).tablet.round + 1) }
+    event = record { step = Advance tablet; answer = Ok (Round ((here_at d r).tablet.round + 1)) }
 
     -- the tablet, the request and the state of the argument
     abbrev t : TabletState parlour
@@ -247,7 +246,7 @@ module _ {first : AbstractBook parlour} {r : Run} {h : List Event} (now : Standi
 
   pub commit-follows : allowed a (here_at d r) ≡ true → steady a (here_at d r) ≡ true
       → same_candidates a (here_at d r) ≡ true
-      → Follows first (applied slot d commits_book r).run (record { step = Advance tablet; answer = Committed (decided (here_at d r)) } ∷ h)
+      → Follows first (applied slot d commits_book r).run (record { step = Advance tablet; answer = Ok (Committed (decided (here_at d r))) } ∷ h)
   unfolding here_at
   commit-follows enough same candidates =
       let b = decided (here_at d r) in
@@ -256,16 +255,16 @@ module _ {first : AbstractBook parlour} {r : Run} {h : List Event} (now : Standi
         run = next now.follows.run (commits (commit-step enough same candidates));
         like =
             after-tablet now (Advance tablet) slot d commits_book same-list (omega arith) (λ q j. refl) idle_now (with_commit s.network (decide x))
-            (gets alike.pending (decide x) ∷ s.handed) s.asks (idle-like (Committed b)) (λ q. refl)
+            (gets alike.pending (decide x) ∷ s.handed) s.asks (idle-like (Ok (Committed b))) (λ q. refl)
             (record { requests = λ q j. j; answers = λ q j. j; commits = λ q j. inr j }) (λ j u k. inl (sym decided-as)) (λ g j. inr j)
-            (λ q j. gets_back (decide x) q (Committed b) (decided-as ∙ ap as_book (sym (handed-committed b q j))))
+            (λ q j. gets_back (decide x) q (Ok (Committed b)) (decided-as ∙ ap as_book (sym (handed-committed b q j))))
             (asks-after now (Advance tablet) slot d commits_book same-list);
       }
 
   abbrev adopts_book : Effect
   adopts_book = hands_back (Adopted (here_at d r).contents.v) no_sending (here_at d r)
 
-  adopt-step : (floor : Book) → Floored a (here_at d r) (Set floor) → floor_inside (Set floor) (device_at d r).v ≡ true
+  adopt-step : (floor : Book) → Floored a (here_at d r) (Some floor) → floor_inside (Some floor) (device_at d r).v ≡ true
       → Adopts s (gives s.network (as_book (device_at d r).v))
   adopt-step floor f e =
       record {
@@ -282,18 +281,18 @@ module _ {first : AbstractBook parlour} {r : Run} {h : List Event} (now : Standi
         asks = refl;
       }
 
-  pub adopt-follows : (floor : Floor) → Floored a (here_at d r) floor → floor_inside floor (here_at d r).contents.v ≡ true
-      → Follows first (applied slot d adopts_book r).run (record { step = Advance tablet; answer = Adopted (here_at d r).contents.v } ∷ h)
+  pub adopt-follows : (floor : Option Book) → Floored a (here_at d r) floor → floor_inside floor (here_at d r).contents.v ≡ true
+      → Follows first (applied slot d adopts_book r).run (record { step = Advance tablet; answer = Ok (Adopted (here_at d r).contents.v) } ∷ h)
   unfolding here_at
-  adopt-follows Unset f e = absurd (false≢true e)
-  adopt-follows (Set floor) f e =
+  adopt-follows None f e = absurd (false≢true e)
+  adopt-follows (Some floor) f e =
       let v = (device_at d r).v in
       record {
         state = gives s.network (as_book v);
         run = next now.follows.run (adopts (adopt-step floor f e));
         like =
             after-tablet now (Advance tablet) slot d adopts_book same-list (omega arith) (λ q j. refl) idle_now s.network
-            (gets alike.pending (as_book v) ∷ s.handed) s.asks (idle-like (Adopted v)) (λ q. refl) no_more (λ j u k. tt) (λ g j. inr j)
-            (λ q j. gets_back (as_book v) q (Adopted v) (ap as_book (sym (handed-adopted v q j))))
+            (gets alike.pending (as_book v) ∷ s.handed) s.asks (idle-like (Ok (Adopted v))) (λ q. refl) no_more (λ j u k. tt) (λ g j. inr j)
+            (λ q j. gets_back (as_book v) q (Ok (Adopted v)) (ap as_book (sym (handed-adopted v q j))))
             (asks-after now (Advance tablet) slot d adopts_book same-list);
       }

@@ -1,4 +1,5 @@
 -- An accepted Ask of the rules is an Ask of the agreement argument (`ask-follows`).
+use Rattle.std.specs.Prelude.{None, Ok}
 use Prim.Native.Nat.{ℕ, suc, ◌+◌, ◌<◌, ◌≤◌}
 use mathlib.Core.Bool.{true}
 use mathlib.Core.Path.{◌≡◌, refl, sym, ap, subst, ◌∙◌}
@@ -15,8 +16,7 @@ use Rattle.books.specs.Queried.{change_at}
 use Rattle.devices.specs.declared.Contents.{Contents}
 use Rattle.devices.specs.declared.Phase.{Phase}
 use Rattle.devices.specs.declared.Phase.TheVariants.{Idle}
-use Rattle.devices.specs.declared.Floor.TheVariants.{Unset}
-use Rattle.devices.specs.declared.Outcome.TheVariants.{Done}
+use Rattle.devices.specs.declared.Accepted.TheVariants.{Done}
 use Rattle.devices.specs.declared.Effect.{Effect}
 use Rattle.devices.specs.declared.Step.TheVariants.{Ask}
 use Rattle.rules.specs.Rules.{asking as asking-now}
@@ -60,14 +60,14 @@ module _ {first : AbstractBook parlour} {r : Run} {h : List Event} (now : Standi
   s = now.follows.state
 
   abbrev event : Event
-  event = record { step = Ask tablet own pair; answer = Done }
+  event = record { step = Ask tablet own pair; answer = Ok Done }
 
   -- what the tablet keeps after it, and the whole effect
   abbrev c : Contents
   c = took_in tablet own named listed (here_at d r)
 
   abbrev effect : Effect
-  effect = begins tablet Done Unset listed c (here_at d r)
+  effect = begins tablet Done None listed c (here_at d r)
 
   -- the argument's book, tablet, request and state after it
   abbrev b : AbstractBook parlour
@@ -103,7 +103,7 @@ module _ {first : AbstractBook parlour} {r : Run} {h : List Event} (now : Standi
   sent = λ k. record { tablet = at k; round = sym round_is k; contents = as_contents listed c }
 
   mine-after : TabletLike listed (last_ask d (event ∷ h)) (before_ask d (event ∷ h)) c
-      (record { round = (tablet_at (within 8 d) r).round + 1; phase = asking-now c Unset }) t
+      (record { round = (tablet_at (within 8 d) r).round + 1; phase = asking-now c None }) t
   mine-after =
       record {
         contents = refl;

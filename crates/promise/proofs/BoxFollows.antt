@@ -1,4 +1,5 @@
 -- A delivery to a box is a box of the agreement argument that hears a request (`request-follows`) or a commit (`box-commit-follows`).
+use Rattle.std.specs.Prelude.{Ok}
 use Prim.Native.Nat.{ℕ, ◌+◌, ◌-◌, ◌<◌, ◌≤◌}
 use mathlib.Core.Bool.{true}
 use mathlib.Core.Path.{◌≡◌, refl, ap}
@@ -10,7 +11,7 @@ use Rattle.devices.specs.declared.Contents.{Contents}
 use Rattle.devices.specs.declared.Letter.{Letter}
 use Rattle.devices.specs.declared.Notice.{Notice}
 use Rattle.devices.specs.declared.Message.TheVariants.{Request, Commit}
-use Rattle.devices.specs.declared.Outcome.TheVariants.{Done}
+use Rattle.devices.specs.declared.Accepted.TheVariants.{Done}
 use Rattle.devices.specs.declared.Sending.{Sending}
 use Rattle.devices.specs.declared.Effect.{Effect}
 use Rattle.devices.specs.declared.Step.TheVariants.{Deliver}
@@ -36,7 +37,7 @@ module _ {first : AbstractBook parlour} {r : Run} {h : List Event} (now : Standi
   s = now.follows.state
 
   abbrev event : Event
-  event = record { step = Deliver k; answer = Done }
+  event = record { step = Deliver k; answer = Ok Done }
 
   -- what the box keeps once it heard y, the effect, and the boxes of the argument
   abbrev keeps : Contents → Contents

@@ -1,5 +1,6 @@
 -- The promise is not empty: the tape that 01 prints, computed by the rules, hands back a book. A version that refuses all, hands back the first book,
 -- does nothing, or merges on the first delivery only gives another history.
+use Rattle.std.specs.Prelude.{Ok}
 use mathlib.Core.Path.{◌≡◌, refl}
 use mathlib.Core.Logic.{inl}
 use mathlib.Core.List.{List, [], ◌∷◌}
@@ -10,10 +11,9 @@ use Rattle.books.specs.Books.{notes_of, own_notes, no_config}
 use Rattle.books.specs.Queried.{first_place, place_of, outside, joined_with, every_majority, asked_boxes}
 use Rattle.devices.specs.declared.Step.{Step}
 use Rattle.devices.specs.declared.Step.TheVariants.{Ask, Advance, Deliver}
-use Rattle.devices.specs.declared.Outcome.{Outcome}
-use Rattle.devices.specs.declared.Outcome.TheVariants.{Done, Committed}
+use Rattle.devices.specs.declared.Accepted.TheVariants.{Done, Committed}
 use Rattle.devices.specs.Contents.{merged}
-use Rattle.devices.specs.Effects.{copies, refuse}
+use Rattle.devices.specs.Effects.{Outcome, copies, refuse}
 use Rattle.rules.specs.Rules.{begun, ask_with, ask_pair, ask, marked, deliver, decided, allowed, steady, commit, adopt_or, advance_from, advance, ruled, effect_of}
 use Rattle.state.specs.Slots.{all, many, laid}
 use Rattle.state.specs.State.{fresh, all_different, proper_desk, proper}
@@ -37,7 +37,7 @@ abbrev book : Book
 book = record { notes = notes_of 0x1; config = record { added = 0x7; removed = 0 } }
 
 record Examples : Type 0 where
-  printed_answers : answers (history 0x7 printed) ≡ Committed book ∷ Done ∷ Done ∷ Done ∷ Done ∷ Done ∷ []
+  printed_answers : answers (history 0x7 printed) ≡ Ok (Committed book) ∷ Ok Done ∷ Ok Done ∷ Ok Done ∷ Ok Done ∷ Ok Done ∷ []
   -- so there is a book that the promise speaks of
   printed_book : HandedBack (history 0x7 printed)
 
@@ -51,7 +51,7 @@ examples =
       printed_book =
           record {
             book = book;
-            event = record { step = Advance 0; answer = Committed book };
+            event = record { step = Advance 0; answer = Ok (Committed book) };
             earlier = history 0x7 delivered;
             happened = inl (refl, refl);
             hands_back = inl refl;

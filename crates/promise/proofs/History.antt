@@ -1,4 +1,5 @@
 -- Histories: what one event more makes of the last ask, of the accepted asks and of the books handed back.
+use Rattle.std.specs.Prelude.{Ok, Err}
 use Prim.Native.Nat.{ℕ}
 use mathlib.Core.Bool.{Bool, true, false}
 use mathlib.Core.Path.{◌≡◌, ap}
@@ -8,8 +9,9 @@ use mathlib.Core.Option.{some}
 use native.Mathlib.Omega.{arith}
 use Rattle.sets.specs.Choice.{pick}
 use Rattle.books.specs.declared.Book.{Book}
-use Rattle.devices.specs.declared.Outcome.{Outcome}
-use Rattle.devices.specs.declared.Outcome.TheVariants.{Done, Round, Committed, Adopted, Refused}
+use Rattle.refusals.specs.declared.Refusal.{Refusal}
+use Rattle.devices.specs.Effects.{Outcome}
+use Rattle.devices.specs.declared.Accepted.TheVariants.{Done, Round, Committed, Adopted}
 use Rattle.promise.specs.Promise.{Event, HandsBack, AcceptedAsk, asked_by, last_ask, brought}
 
 -- ---- The last ask
@@ -55,22 +57,22 @@ ask_stays a =
 abbrev pub Silent : Outcome → Type 0
 Silent answer = (b : Book) → HandsBack answer b → ⊥
 
-pub silent-done : Silent Done
+pub silent-done : Silent (Ok Done)
 silent-done b (inl e) = let z : ◌≡◌ {A = ℕ} 0 1 = cc in omega arith
 silent-done b (inr e) = let z : ◌≡◌ {A = ℕ} 0 1 = cc in omega arith
 
-pub silent-round : (n : ℕ) → Silent (Round n)
+pub silent-round : (n : ℕ) → Silent (Ok (Round n))
 silent-round n b (inl e) = let z : ◌≡◌ {A = ℕ} 0 1 = cc in omega arith
 silent-round n b (inr e) = let z : ◌≡◌ {A = ℕ} 0 1 = cc in omega arith
 
-pub silent-refused : (n : ℕ) → Silent (Refused n)
-silent-refused n b (inl e) = let z : ◌≡◌ {A = ℕ} 0 1 = cc in omega arith
-silent-refused n b (inr e) = let z : ◌≡◌ {A = ℕ} 0 1 = cc in omega arith
+pub silent-refused : (refusal : Refusal) → Silent (Err refusal)
+silent-refused refusal b (inl e) = let z : ◌≡◌ {A = ℕ} 0 1 = cc in omega arith
+silent-refused refusal b (inr e) = let z : ◌≡◌ {A = ℕ} 0 1 = cc in omega arith
 
-pub handed-committed : (a b : Book) → HandsBack (Committed a) b → b ≡ a
+pub handed-committed : (a b : Book) → HandsBack (Ok (Committed a)) b → b ≡ a
 handed-committed a b (inl e) = cc
 handed-committed a b (inr e) = cc
 
-pub handed-adopted : (a b : Book) → HandsBack (Adopted a) b → b ≡ a
+pub handed-adopted : (a b : Book) → HandsBack (Ok (Adopted a)) b → b ≡ a
 handed-adopted a b (inl e) = cc
 handed-adopted a b (inr e) = cc

@@ -5,7 +5,9 @@ use Prim.Native.Nat.{ℕ, zero, suc}
 use mathlib.Core.Bool.{Bool, true, false, true≢false}
 use mathlib.Core.Path.{◌≡◌, refl, sym, ◌∙◌}
 use mathlib.Core.List.{List, [], ◌∷◌}
-use mathlib.Core.Option.{Option, none, some}
+use mathlib.Core.Option.{none, some}
+use mathlib.Core.Option as M
+use Rattle.std.specs.Prelude.{Option, Some, None}
 use Rattle.sets.specs.Choice.{pick}
 use Rattle.sets.specs.Sets.{digit, has}
 use Rattle.books.specs.declared.Notes.{Notes}
@@ -17,8 +19,6 @@ use Rattle.books.specs.Queried.{change_at}
 use Rattle.books.proofs.NoteLaws.{notes-joined}
 use Rattle.books.proofs.BookLaws.{configs-joined, majorities-share, book-parts-inside, parts-book-inside}
 use Rattle.devices.specs.declared.Contents.{Contents}
-use Rattle.devices.specs.declared.Floor.{Floor}
-use Rattle.devices.specs.declared.Floor.TheVariants.{Unset, Set}
 use Rattle.agreement.specs.Lattice.{Semilattice, AtMost}
 use Rattle.agreement.specs.Setting.{Setting, Contained, Book as AbstractBook, Contents as AbstractContents}
 use Rattle.agreement.proofs.Changes.{Parts, setting}
@@ -90,9 +90,9 @@ as_changes listed t = changes_below listed t 6
 abbrev pub as_contents : Listed → Contents → AbstractContents parlour
 as_contents listed c = record { committed = as_book c.v; candidates = c.candidates; changes = as_changes listed c.t }
 
-abbrev pub as_floor : Floor → Option (AbstractBook parlour)
-as_floor Unset = none
-as_floor (Set b) = some (as_book b)
+abbrev pub as_floor : Option Book → M.Option (AbstractBook parlour)
+as_floor None = none
+as_floor (Some b) = some (as_book b)
 
 -- ---- Containment of books
 

@@ -1,5 +1,6 @@
 -- Every step of the rules is a step of the agreement argument, or none: refused, lost, repeated and stopped leave the argument where it is.
 -- So every run from a fresh start follows the argument (`run-stands`).
+use Rattle.std.specs.Prelude.{Ok, Err}
 use Prim.Native.Nat.{ℕ, zero, suc, ◌+◌, ◌<◌, ◌≤◌}
 use mathlib.Core.Bool.{Bool, true, false}
 use mathlib.Core.Path.{◌≡◌, refl, sym, ap, subst, ◌∙◌}
@@ -14,14 +15,15 @@ use Rattle.sets.specs.Sets.{has}
 use Rattle.devices.specs.declared.Notice.{Notice}
 use Rattle.devices.specs.declared.Message.{Message}
 use Rattle.devices.specs.declared.Message.TheVariants.{Commit}
-use Rattle.devices.specs.declared.Outcome.{Outcome}
-use Rattle.devices.specs.declared.Outcome.TheVariants.{Done, Refused}
+use Rattle.devices.specs.declared.Accepted.TheVariants.{Done}
 use Rattle.devices.specs.declared.Sending.{Sending}
 use Rattle.devices.specs.declared.Effect.{Effect}
 use Rattle.devices.specs.declared.Step.{Step}
 use Rattle.devices.specs.declared.Step.TheVariants.{Deliver}
 use Rattle.devices.specs.Contents.{fresh_contents, fresh_tablet, brought_by, merged}
-use Rattle.devices.specs.Effects.{addressed, addressee, only, no_sending, refuse}
+use Rattle.refusals.specs.declared.Refusal.{Refusal}
+use Rattle.refusals.specs.Refusals.{number}
+use Rattle.devices.specs.Effects.{Outcome, addressed, addressee, only, no_sending, refuse}
 use Rattle.rules.specs.Table.{row, device_named, names_tablet, is_ask_of}
 use Rattle.rules.specs.Rules.{heard}
 use Rattle.state.specs.declared.Run.{Run}
@@ -93,12 +95,12 @@ module _ {first : AbstractBook parlour} {r : Run} {h : List Event} (now : Standi
 
   commit-heard : (k : ℕ) (c : Notice) → Sent r.listed s.network (Commit c)
       → Follows first (applied slot d (heard (merged r.listed (device_at d r) (brought_by c.book)) (here_at d r).tablet no_sending (here_at d r)) r).run
-      (record { step = Deliver k; answer = Done } ∷ h)
+      (record { step = Deliver k; answer = Ok Done } ∷ h)
   commit-heard k c was = go (ltb d 8) refl
     where
       go : (b : Bool) → ltb d 8 ≡ b
           → Follows first (applied slot d (heard (merged r.listed (device_at d r) (brought_by c.book)) (here_at d r).tablet no_sending (here_at d r)) r).run
-          (record { step = Deliver k; answer = Done } ∷ h)
+          (record { step = Deliver k; answer = Ok Done } ∷ h)
       go true e = tablet-commit-follows now slot d k (ltb-true d 8 e) c was
       go false e = box-commit-follows now slot d k (ltb-false d 8 e) low c was
 
@@ -107,14 +109,14 @@ module _ {first : AbstractBook parlour} {r : Run} {h : List Event} (now : Standi
   named_here {n} e l = within_in 24 n l ∙ sym e
 
   -- what is refused by a number from 2 on is no accepted ask
-  refused-quiet : (step : Step) (n : ℕ) → 2 ≤ n → (q : ℕ) → asked_by q (record { step = step; answer = Refused n }) ≡ false
-  refused-quiet step n l q = ap (λ (b : Bool). both b (is_ask_of q step)) (ne_eqb n 0 (λ e. lt_irrefl 0 (omega arith)))
+  refused-quiet : (step : Step) (refusal : Refusal) → 2 ≤ number refusal → (q : ℕ) → asked_by q (record { step = step; answer = Err refusal }) ≡ false
+  refused-quiet step refusal l q = ap (λ (b : Bool). both b (is_ask_of q step)) (ne_eqb (number refusal) 0 (λ e. lt_irrefl 0 (omega arith)))
 
   acts-follow : {known : Bool} {step : Step} {m : Message} {e : Effect} → Acts known (here_at d r) step m e → known ≡ true → d ≡ device_of step m
       → proper_message r.listed.count m ≡ true → Sent r.listed s.network m
       → Follows first (applied slot d e r).run (record { step = step; answer = e.outcome } ∷ h)
   unfolding here_at refuse
-  acts-follow (refused step m n b) is at q was = quiet-follows step (Refused n) false false no_sending (refused-quiet step n (b is)) (silent-refused n) (λ j u i. tt)
+  acts-follow (refused step m n b) is at q was = quiet-follows step (Err n) false false no_sending (refused-quiet step n (b is)) (silent-refused n) (λ j u i. tt)
   acts-follow (asks tablet own pair m listed named l i x naming) is at q was =
       ask-follows now slot d tablet own pair listed named (named_here at (omega arith)) l i naming
   acts-follow (hears_request k l) is at q was =
@@ -131,7 +133,7 @@ module _ {first : AbstractBook parlour} {r : Run} {h : List Event} (now : Standi
       commit-follows now slot d tablet a (named_here at (omega arith)) l i enough same candidates
   acts-follow (adopts tablet m a floor l i f e) is at q was = adopt-follows now slot d tablet a (named_here at (omega arith)) l i floor f e
   acts-follow (changes_none step m frees halts sending none f g resent) is at q was =
-      quiet-follows step Done frees halts sending (λ j. ap (λ (b : Bool). both b (names_tablet j (row step).names)) none) silent-done (resent-follows resent was)
+      quiet-follows step (Ok Done) frees halts sending (λ j. ap (λ (b : Bool). both b (names_tablet j (row step).names)) none) silent-done (resent-follows resent was)
 
 -- ---- The step
 

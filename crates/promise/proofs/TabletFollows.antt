@@ -1,5 +1,6 @@
 -- A delivery to a tablet is a tablet of the agreement argument that hears an answer or a commit, and counts the answer if it is of its own
 -- round (`answer-follows`, `tablet-commit-follows`).
+use Rattle.std.specs.Prelude.{Ok}
 use Prim.Native.Nat.{ℕ, ◌-◌, ◌^◌, ◌<◌}
 use mathlib.Core.Bool.{Bool, true, false}
 use mathlib.Core.Path.{◌≡◌, refl, sym, ap, subst, ◌∙◌}
@@ -19,7 +20,7 @@ use Rattle.devices.specs.declared.Phase.TheVariants.{Idle, Asks}
 use Rattle.devices.specs.declared.Letter.{Letter}
 use Rattle.devices.specs.declared.Notice.{Notice}
 use Rattle.devices.specs.declared.Message.TheVariants.{Answer, Commit}
-use Rattle.devices.specs.declared.Outcome.TheVariants.{Done}
+use Rattle.devices.specs.declared.Accepted.TheVariants.{Done}
 use Rattle.devices.specs.declared.Effect.{Effect}
 use Rattle.devices.specs.declared.Step.TheVariants.{Deliver}
 use Rattle.devices.specs.Contents.{merged, brought_by}
@@ -48,7 +49,7 @@ module _ {first : AbstractBook parlour} {r : Run} {h : List Event} (now : Standi
   s = now.follows.state
 
   abbrev event : Event
-  event = record { step = Deliver k; answer = Done }
+  event = record { step = Deliver k; answer = Ok Done }
 
   -- the tablet's own part, as the rules see it
   abbrev own : Tablet

@@ -13,8 +13,7 @@ use Rattle.books.specs.declared.Book.{Book}
 use Rattle.books.specs.Books.{owner, has_note, own_notes, book_inside}
 use Rattle.devices.specs.declared.Step.{Step}
 use Rattle.devices.specs.declared.Step.TheVariants.{Ask, Advance}
-use Rattle.devices.specs.declared.Outcome.{Outcome}
-use Rattle.devices.specs.Effects.{answer_of, number_of}
+use Rattle.devices.specs.Effects.{Outcome, answer_of, number_of}
 use Rattle.rules.specs.Table.{row, is_ask_of}
 use Rattle.state.specs.declared.Run.{Run}
 use Rattle.state.specs.State.{fresh}
