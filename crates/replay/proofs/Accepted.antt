@@ -1,4 +1,5 @@
 -- A word that the tape takes for a step has one, which playing it takes (`word-plays`); the words of an accepted tape are such (`accepted-plays`).
+use Rattle.std.specs.Prelude.{Option, Some, slice_get}
 use mathlib.Core.Path.{◌≡◌, refl, sym}
 use mathlib.Core.Logic.{◌≢◌}
 use Prim.Native.Nat.{ℕ, zero, suc, ◌<◌}
@@ -21,17 +22,15 @@ use Rattle.devices.specs.declared.Step.TheVariants.{Ask, Advance, Deliver, Lose,
 use Rattle.parlour.specs.Steps.{taken}
 use Rattle.replay.specs.Replay.{kinds, step_of}
 use Rattle.replay.specs.Statements.{Plays}
-use Rattle.replay.specs.declared.Decoded.{Decoded}
-use Rattle.replay.specs.declared.Decoded.TheVariants as D
 use Rattle.replay.proofs.Words.{step_is, played-step}
 
 -- what a word decodes to is a step
-record IsStep (d : Decoded) : Type 0 where
+record IsStep (d : Option Step) : Type 0 where
   step : Step
-  is : d ≡ D.Step step
+  is : d ≡ Some step
 
 -- each kind that has a width has a step
-of-wide : (f : Fields) (k : ℕ) → width first_edition k ≢ 0 → IsStep (get_or (kinds f) k D.NoStep)
+of-wide : (f : Fields) (k : ℕ) → width first_edition k ≢ 0 → IsStep (slice_get (kinds f) k)
 of-wide f zero h = record { step = Ask f.first f.second (record { added = f.third; removed = f.fourth }); is = refl }
 of-wide f (suc zero) h = record { step = Advance f.first; is = refl }
 of-wide f (suc (suc zero)) h = record { step = Deliver f.first; is = refl }
@@ -46,7 +45,7 @@ unfolding fields_in fields_of
 word-plays x h =
     let some : width first_edition (num (take 3 (bits 64 x))) ≢ 0 = λ e. omega (arith, wide-none first_edition x e) in
     let d = of-wide (fields_in first_edition x) (num (take 3 (bits 64 x))) some in
-    let is : step_of x ≡ D.Step d.step = sym (step_is x (fields_in first_edition x) (D.Step d.step) (lt-ltb _ _ h) refl (sym d.is)) in
+    let is : step_of x ≡ Some d.step = sym (step_is x (fields_in first_edition x) (Some d.step) (lt-ltb _ _ h) refl (sym d.is)) in
     record { step = d.step; is = is; takes = λ r. sym (played-step x r (step_of x) refl d.step (taken d.step r) is refl) }
 
 each-wide : (xs : List ℕ) → all_steps first_edition xs ≡ true → (i : ℕ) → i < length xs → 0 < wide first_edition (get_or xs i 0)

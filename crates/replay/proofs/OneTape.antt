@@ -1,5 +1,6 @@
 -- One tape for one run of steps: a step says which kind and numbers its word has (`fields_for`, `step-fields`), so it has no two (`word-settled`);
 -- it has one where it names what there is (`word-of-step`); and the first boxes and the steps settle an accepted tape (`tape-settled`).
+use Rattle.std.specs.Prelude.{Option, Some, None}
 use Prim.Native.Nat.{ℕ, zero, suc, ◌^◌, ◌<◌}
 use mathlib.Core.Bool.{Bool, true, false}
 use mathlib.Core.List.{List, [], ◌∷◌, map}
@@ -30,8 +31,6 @@ use Rattle.sets.proofs.BoundedLaws.{pick_true, pick-false}
 use Rattle.rules.specs.Table.{row, in_range}
 use Rattle.replay.specs.Statements.{SetsFit, HasWord}
 use Rattle.replay.specs.Replay.{of_fields, step_of, decoded_number}
-use Rattle.replay.specs.declared.Decoded.{Decoded}
-use Rattle.replay.specs.declared.Decoded.TheVariants as D
 use Rattle.replay.proofs.Words.{step_is, step-none}
 use Rattle.replay.proofs.Accepted.{word-plays}
 
@@ -47,15 +46,15 @@ fields_for (Repeat slot) = 4 ∷ slot ∷ []
 fields_for (Stop device) = 5 ∷ device ∷ []
 
 -- of what a word decodes to
-decoded_fields : Decoded → List ℕ
-decoded_fields (D.Step step) = fields_for step
-decoded_fields D.NoStep = []
+decoded_fields : Option Step → List ℕ
+decoded_fields (Some step) = fields_for step
+decoded_fields None = []
 
 -- the fields of a kind and some bits
 kind_fields : ℕ → List Bool → List ℕ
 kind_fields k b = k ∷ numbers (fields first_edition k) b
 
-of_kind : ℕ → List Bool → Decoded
+of_kind : ℕ → List Bool → Option Step
 of_kind k b = of_fields (record { kind = k; first = get_or (kind_fields k b) 1 0; second = get_or (kind_fields k b) 2 0; third = get_or (kind_fields k b) 3 0; fourth = get_or (kind_fields k b) 4 0 })
 
 kind-fields : (k : ℕ) (b : List Bool) → width first_edition k ≢ 0 → MayHold (get_or (fields first_edition k) 1 no_field) (get_or (kind_fields k b) 2 0)
@@ -73,21 +72,21 @@ kind-fields (suc (suc (suc (suc (suc (suc zero)))))) b h may-hold =
     ap (λ (k : ℕ). k ∷ numbers (fields first_edition 6) b) (pick-false 0 6 (le-ltb _ _ may-hold.least))
 kind-fields (suc (suc (suc (suc (suc (suc (suc k))))))) b h may-hold = absurd (h refl)
 
-step-fields : (x : ℕ) (step : Step) → is_step first_edition x ≡ true → step_of x ≡ D.Step step → fields_of first_edition x ≡ fields_for step
+step-fields : (x : ℕ) (step : Step) → is_step first_edition x ≡ true → step_of x ≡ Some step → fields_of first_edition x ≡ fields_for step
 unfolding kind_fields of_kind decoded_fields fields_of fields_in
 step-fields x step h e =
     let some : width first_edition (kind_of x) ≢ 0 = λ e. omega (arith, wide-none first_edition x e, ltb-true 0 (wide first_edition x) h) in
     kind-fields (kind_of x) (drop 3 (bits 64 x)) some (word-may-hold first_edition x 1 h)
     ∙ ap decoded_fields (step_is x (fields_in first_edition x) (of_fields (fields_in first_edition x)) h refl refl ∙ e)
 
-decoded-is-step : (x : ℕ) (step : Step) → step_of x ≡ D.Step step → is_step first_edition x ≡ true
+decoded-is-step : (x : ℕ) (step : Step) → step_of x ≡ Some step → is_step first_edition x ≡ true
 decoded-is-step x step e = go (is_step first_edition x) refl
   where
     go : (b : Bool) → is_step first_edition x ≡ b → is_step first_edition x ≡ true
     go true h = h
     go false h = let z : ◌≡◌ {A = ℕ} 14 0 = ap decoded_number (step-none x h ∙ e) in absurd (omega arith)
 
-pub word-settled : (x y : ℕ) (step : Step) → step_of x ≡ D.Step step → step_of y ≡ D.Step step → x ≡ y
+pub word-settled : (x y : ℕ) (step : Step) → step_of x ≡ Some step → step_of y ≡ Some step → x ≡ y
 word-settled x y step e f =
     let h = decoded-is-step x step e in
     let i = decoded-is-step y step f in
@@ -99,10 +98,10 @@ word-settled x y step e f =
 fields_from : List ℕ → Fields
 fields_from l = record { kind = get_or l 0 0; first = get_or l 1 0; second = get_or l 2 0; third = get_or l 3 0; fourth = get_or l 4 0 }
 
-from-word : (k : ℕ) (ns : List ℕ) (step : Step) → WordFor first_edition k ns → D.Step step ≡ of_fields (fields_from (k ∷ ns)) → HasWord step
+from-word : (k : ℕ) (ns : List ℕ) (step : Step) → WordFor first_edition k ns → Some step ≡ of_fields (fields_from (k ∷ ns)) → HasWord step
 unfolding fields_from fields_in
 from-word k ns step w e =
-    record { word = w.word_is; is = sym (step_is w.word_is (fields_from (k ∷ ns)) (D.Step step) w.is_step (ap fields_from (sym w.has)) e) }
+    record { word = w.word_is; is = sym (step_is w.word_is (fields_from (k ∷ ns)) (Some step) w.is_step (ap fields_from (sym w.has)) e) }
 
 -- a kind of the table other than the end mark's, and numbers that its fields may hold, are a step word's
 known-word : (k : ℕ) (ns : List ℕ) → k < 7 → EachMayHold (fields first_edition k) ns → WordFor first_edition k ns
@@ -172,7 +171,7 @@ words-settled (x ∷ xs) [] h e = let z : suc (length (map step_of xs)) ≡ 0 = 
 words-settled (x ∷ xs) (y ∷ ys) h e =
     let parts = all_cons first_edition x xs h in
     let plays = word-plays x parts.0 in
-    let head : step_of x ≡ step_of y = ap (λ l. get_or l 0 D.NoStep) e in
+    let head : step_of x ≡ step_of y = ap (λ l. get_or l 0 None) e in
     let tail : map step_of xs ≡ map step_of ys = ap (drop 1) e in
     ap₂ ◌∷◌ (word-settled x y plays.step plays.is (sym head ∙ plays.is)) (words-settled xs ys parts.1 tail)
 

@@ -1,11 +1,12 @@
--- Words as steps: the fields of a word are small (`fields-small`), the cases of `step_of` and `played`.
+-- Words as steps: the fields of a word are small (`fields_small`), the cases of `step_of` and `played`.
+use Rattle.std.specs.Prelude.{Option, Some, None}
 use Prim.Native.Nat.{ℕ, zero, suc, ◌^◌, ◌≤◌, ◌<◌}
 use mathlib.Core.Bool.{Bool, true, false}
 use mathlib.Core.List.{List, [], ◌∷◌}
 use mathlib.Core.Path.{◌≡◌, sym, ap, subst, ◌∙◌}
 use native.Mathlib.Nat.{lt_of_lt_of_le}
 use native.Mathlib.Omega.{arith}
-use lib.ListN.{take, drop, get_or, get_or-eq_default}
+use lib.ListN.{take, drop, get_or}
 use lib.Pow.{pow_pos, pow_mono}
 use Rattle.sets.specs.Choice.{pick}
 use Rattle.tape.specs.Bits.{bits, num}
@@ -14,16 +15,12 @@ use Rattle.tape.specs.Layout.{fields, numbers, fields_of, fields_in, no_field}
 use Rattle.tape.specs.Writing.{is_step}
 use Rattle.tape.specs.declared.Fields.{Fields}
 use Rattle.tape.proofs.BitLaws.{num-take-lt}
-use Rattle.devices.specs.declared.Outcome.TheVariants.{Refused}
 use Rattle.devices.specs.declared.Step.{Step}
-use Rattle.devices.specs.Effects.{answer_of}
 use Rattle.state.specs.declared.Run.{Run}
 use Rattle.state.specs.declared.Stepped.{Stepped}
 use Rattle.parlour.specs.Steps.{taken}
-use Rattle.replay.specs.Replay.{kinds, of_fields, step_of, played_by, played, PlayPromise}
+use Rattle.replay.specs.Replay.{of_fields, step_of, played_by, played}
 use Rattle.replay.specs.Working.{Small}
-use Rattle.replay.specs.declared.Decoded.{Decoded}
-use Rattle.replay.specs.declared.Decoded.TheVariants as D
 
 -- ---- The fields of a word
 
@@ -48,9 +45,9 @@ widths (suc (suc (suc (suc (suc zero))))) = (omega arith, omega arith, omega ari
 widths (suc (suc (suc (suc (suc (suc zero)))))) = (omega arith, omega arith, omega arith, omega arith)
 widths (suc (suc (suc (suc (suc (suc (suc k))))))) = (omega arith, omega arith, omega arith, omega arith)
 
-pub fields-small : (x : ℕ) (f : Fields) → f ≡ fields_in first_edition x → Small f
+pub fields_small : (x : ℕ) (f : Fields) → f ≡ fields_in first_edition x → Small f
 unfolding fields_in fields_of
-fields-small x f e =
+fields_small x f e =
     let k = num (take 3 (bits 64 x)) in
     let below = numbers-lt (fields first_edition k) (drop 3 (bits 64 x)) in
     let w = widths k in
@@ -58,28 +55,15 @@ fields-small x f e =
 
 -- ---- The cases of a word
 
-pub of-kind : (f : Fields) (k : ℕ) → f.kind ≡ k → get_or (kinds f) k D.NoStep ≡ of_fields f
-of-kind f k e = ap (λ n. get_or (kinds f) n D.NoStep) (sym e)
-
-pub of-no-kind : (f : Fields) → 7 ≤ f.kind → D.NoStep ≡ of_fields f
-of-no-kind f h = sym (get_or-eq_default (kinds f) D.NoStep h)
-
-pub step_is : (x : ℕ) (f : Fields) (d : Decoded) → is_step first_edition x ≡ true → f ≡ fields_in first_edition x → d ≡ of_fields f → d ≡ step_of x
+pub step_is : (x : ℕ) (f : Fields) (d : Option Step) → is_step first_edition x ≡ true → f ≡ fields_in first_edition x → d ≡ of_fields f → d ≡ step_of x
 unfolding step_of
-step_is x f d e g h = h ∙ ap of_fields g ∙ sym (ap (λ b. pick b (of_fields (fields_in first_edition x)) D.NoStep) e)
+step_is x f d e g h = h ∙ ap of_fields g ∙ sym (ap (λ b. pick b (of_fields (fields_in first_edition x)) None) e)
 
-pub step-none : (x : ℕ) → is_step first_edition x ≡ false → D.NoStep ≡ step_of x
+pub step-none : (x : ℕ) → is_step first_edition x ≡ false → None ≡ step_of x
 unfolding step_of
-step-none x e = sym (ap (λ b. pick b (of_fields (fields_in first_edition x)) D.NoStep) e)
+step-none x e = sym (ap (λ b. pick b (of_fields (fields_in first_edition x)) None) e)
 
-module _ (x : ℕ) (r : Run) (d : Decoded) (decoded : d ≡ step_of x) where
-  pub played-step : (step : Step) (s : Stepped) → d ≡ D.Step step → s ≡ taken step r → s ≡ played x r
+module _ (x : ℕ) (r : Run) (d : Option Step) (decoded : d ≡ step_of x) where
+  pub played-step : (step : Step) (s : Stepped) → d ≡ Some step → s ≡ taken step r → s ≡ played x r
   unfolding played
   played-step step s e g = g ∙ ap (λ d. played_by d r) (sym e ∙ decoded)
-
-  pub played-none : d ≡ D.NoStep → record { outcome = Refused 14; run = r } ≡ played x r
-  unfolding played
-  played-none e = ap (λ d. played_by d r) (sym e ∙ decoded)
-
-pub play-promise : (x : ℕ) (r : Run) (s : Stepped) → s ≡ played x r → PlayPromise x r s
-play-promise x r s e = record { settled = e; told = ap (λ (y : Stepped). answer_of y.outcome) e }

@@ -6,71 +6,63 @@ ghost use Rattle.replay.specs.Replay.{ask_of, of_fields, step_of, PlayPromise};
 ghost use Rattle.replay.specs.Working.{Small};
 
 use books::Config;
-use devices::{Outcome, Step};
+use devices::Step;
+use refusals::Refusal;
 use state::{Run, Stepped};
 use tape::Fields;
 
-// The step that a word is, or that it is none.
-#[derive(Clone, Copy)]
-pub enum Decoded {
-    Step(Step),
-    NoStep,
-}
-
 // An Ask, short or long: a step has sixteen notes, of which the short one brings the first eight.
-fn ask_of(f: Fields) -> Decoded
+fn ask_of(f: Fields) -> Step
     requires { Small f }
     ensures { result ≡ ask_of f }
 {
-    let pair = Config {
-        added: f.third as u16,
-        removed: f.fourth as u16,
-    };
-    Decoded::Step(Step::Ask {
+    Step::Ask {
         tablet: f.first as u8,
         notes: f.second as u16,
-        pair: pair,
-    })
+        pair: Config {
+            added: f.third as u16,
+            removed: f.fourth as u16,
+        },
+    }
 }
 
 // The step of a kind and its fields.
-fn of_fields(f: Fields) -> Decoded
+fn of_fields(f: Fields) -> Option<Step>
     requires { Small f }
     ensures { result ≡ of_fields f }
 {
-    let kind = f.kind;
-    match kind {
-        0 => ask_of(f),
-        1 => Decoded::Step(Step::Advance(f.first as u8)),
-        2 => Decoded::Step(Step::Deliver(f.first as u8)),
-        3 => Decoded::Step(Step::Lose(f.first as u8)),
-        4 => Decoded::Step(Step::Repeat(f.first as u8)),
-        5 => Decoded::Step(Step::Stop(f.first as u8)),
-        6 => ask_of(f),
-        _ => Decoded::NoStep,
+    match f.kind {
+        0 | 6 => Some(ask_of(f)),
+        1 => Some(Step::Advance(f.first as u8)),
+        2 => Some(Step::Deliver(f.first as u8)),
+        3 => Some(Step::Lose(f.first as u8)),
+        4 => Some(Step::Repeat(f.first as u8)),
+        5 => Some(Step::Stop(f.first as u8)),
+        _ => None,
     }
 }
 
-// The step that a word is.
-pub fn decode(word: u64) -> Decoded
+// The step that a word is, if it is one.
+#[tactic(auto, using(crate::proofs::Words::fields_small), unfolding(crate::specs::Replay::step_of))]
+pub fn decode(word: u64) -> Option<Step>
     ensures { result ≡ step_of word }
 {
-    if tape::is_step(word) {
-        return of_fields(tape::fields_of(word));
+    if !tape::is_step(word) {
+        return None;
     }
-    Decoded::NoStep
+    of_fields(tape::fields_of(word))
 }
 
 // The step of a word taken; 14 for a word that is none.
+#[tactic(auto, unfolding(crate::specs::Replay::played))]
 pub fn play_word(run: Run, word: u64) -> Stepped
     ensures { PlayPromise word run result }
 {
-    let decoded = decode(word);
-    match decoded {
-        Decoded::Step(step) => parlour::step(run, step),
-        Decoded::NoStep => Stepped {
-            outcome: Outcome::Refused(14),
-            run: run,
+    match decode(word) {
+        Some(step) => parlour::step(run, step),
+        None => Stepped {
+            outcome: Err(Refusal::NoStep),
+            run,
         },
     }
 }
