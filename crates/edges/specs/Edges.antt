@@ -1,7 +1,6 @@
 -- 01, "On both sides of each edge": the edges marked P, the case of "R 2", and the edges of request [1], in one table under one statement
 -- (`edges-hold`), each seen by computing the rules themselves.
-use Rattle.std.specs.Prelude.{ℕ, ◌+◌, ◌*◌, ◌^◌, Bool, true, false, List, [], ◌∷◌, ◌≡◌, refl}
-use Rattle.std.proofs.Math.Option.{Option, none, some}
+use Rattle.std.specs.Prelude.{ℕ, ◌+◌, ◌*◌, ◌^◌, Bool, true, false, List, [], ◌∷◌, ◌≡◌, refl, Option, Some, None, Ok, Err}
 use Rattle.sets.specs.Choice.{pick}
 use Rattle.sets.specs.Sets.{inside}
 use Rattle.sets.specs.Bounded.{times, each, unions, how_many, those}
@@ -12,16 +11,14 @@ use Rattle.books.specs.declared.Listed.{Listed}
 use Rattle.books.specs.declared.Notes.{Notes}
 use Rattle.books.specs.Books.{notes_of, own_notes, no_config, members_of, has_majority}
 use Rattle.books.specs.Queried.{first_place, place_of, with_change, outside, joined_with, every_majority, asked_boxes}
-use Rattle.devices.specs.declared.Floor.{Floor}
-use Rattle.devices.specs.declared.Floor.TheVariants.{Unset, Set}
-use Rattle.devices.specs.declared.Outcome.{Outcome}
-use Rattle.devices.specs.declared.Outcome.TheVariants.{Refused, Round}
+use Rattle.refusals.specs.declared.Refusal.TheVariants.{NotAllowed}
+use Rattle.devices.specs.declared.Accepted.TheVariants.{Round}
 use Rattle.devices.specs.declared.Phase.{Phase}
 use Rattle.devices.specs.declared.Phase.TheVariants.{Idle, Asks}
 use Rattle.devices.specs.declared.Step.{Step}
 use Rattle.devices.specs.declared.Step.TheVariants.{Ask, Advance, Deliver}
 use Rattle.devices.specs.Contents.{merged}
-use Rattle.devices.specs.Effects.{only, copies, refuse}
+use Rattle.devices.specs.Effects.{Outcome, only, copies, refuse}
 use Rattle.rules.specs.Rules.{begun, ask_with, ask_pair, ask, marked, deliver, decided, allowed, steady, commit, adopt_or, advance_from, advance, stop, ruled, effect_of}
 use Rattle.state.specs.declared.Run.{Run}
 use Rattle.state.specs.Slots.{all, many, laid}
@@ -60,13 +57,13 @@ query_of answered config =
 
 -- the saved configuration joined with a set of changes, where the tablet is asking and they are of the saved T
 abbrev pub queried : Listed → ℕ → Phase → Option Query
-queried listed changes Idle = none
+queried listed changes Idle = None
 queried listed changes (Asks a) =
-    pick (inside changes a.t) (some (query_of a.answered (joined_with listed a.config changes))) none
+    pick (inside changes a.t) (Some (query_of a.answered (joined_with listed a.config changes))) None
 
 -- the floor of an asking tablet
-abbrev pub floor_of : Phase → Floor
-floor_of Idle = Unset
+abbrev pub floor_of : Phase → Option Book
+floor_of Idle = None
 floor_of (Asks a) = a.floor
 
 -- ---- The table
@@ -81,7 +78,7 @@ pub data Edge : Type 0 where
   a_stop : List ℕ → ℕ → Edge
   a_candidates : List ℕ → ℕ → Notes → Edge
   a_query : ℕ → List Step → ℕ → ℕ → Query → Edge
-  a_floor : ℕ → List Step → ℕ → Floor → Edge
+  a_floor : ℕ → List Step → ℕ → Option Book → Edge
   a_run : ℕ → Step → List Step → Outcome → Edge
 
 -- what a row says
@@ -91,7 +88,7 @@ Says (a_tape tape outcome) = read_tape tape ≡ outcome
 Says (a_stop tape device) = (state_after tape).stopped ≡ only device
 Says (a_candidates tape device notes) = (device_at device (state_after tape)).candidates ≡ notes
 Says (a_query boxes steps tablet changes query) =
-    queried (after boxes steps).listed changes (tablet_at tablet (after boxes steps)).phase ≡ some query
+    queried (after boxes steps).listed changes (tablet_at tablet (after boxes steps)).phase ≡ Some query
 Says (a_floor boxes steps tablet floor) = floor_of (tablet_at tablet (after boxes steps)).phase ≡ floor
 Says (a_run boxes step earlier outcome) = (taken step (after boxes earlier)).outcome ≡ outcome
 
@@ -152,10 +149,10 @@ edges =
     -- "first box 0 only, an ask removing box 0, box 0 answers: Advance is 6, as one queried configuration has no members"
     ∷ a_query 0x0001 only_box_removed 0 0 own_config
     ∷ a_query 0x0001 only_box_removed 0 (2 ^ 0) with_removal
-    ∷ a_run 0x0001 (Advance 0) only_box_removed (Refused 6)
+    ∷ a_run 0x0001 (Advance 0) only_box_removed (Err NotAllowed)
     -- "its Advance gives R 2", and "the floor holds notes 0 and 16"
-    ∷ a_run 0x0007 (Advance 1) both_asked (Round 2)
-    ∷ a_floor 0x0007 (Advance 1 ∷ both_asked) 1 (Set both_notes)
+    ∷ a_run 0x0007 (Advance 1) both_asked (Ok (Round 2))
+    ∷ a_floor 0x0007 (Advance 1 ∷ both_asked) 1 (Some both_notes)
     ∷ []
 
 -- every row holds

@@ -1,7 +1,7 @@
 -- The useless versions that 01 names ("How far a contract must reach"): what meets the contract of a step is none of them.
 -- A version is what it makes of a step and a state. Four are met on the tape that 01 prints: first boxes 0, 1, 2; tablet 0 asks note 0. The last
 -- is shut out by what holds of every step.
-use Rattle.std.specs.Prelude.{ℕ, Bool, true, false, List, [], ◌∷◌, ◌≡◌, refl, get_or}
+use Rattle.std.specs.Prelude.{ℕ, Bool, true, false, List, [], ◌∷◌, ◌≡◌, refl, get_or, Ok}
 use Rattle.std.proofs.Common.{true≢false, inl, sym, ap, subst, ◌∙◌, lt_irrefl, arith}
 use Rattle.sets.specs.Bounded.{times, each, unions, how_many, those}
 use Rattle.sets.specs.Majority.{weigh, one, majority, majority_of}
@@ -11,10 +11,9 @@ use Rattle.books.specs.Queried.{first_place, place_of, with_change, outside, joi
 use Rattle.devices.specs.declared.Step.{Step}
 use Rattle.devices.specs.declared.Step.TheVariants.{Ask, Advance, Deliver}
 use Rattle.devices.specs.declared.Contents.{Contents}
-use Rattle.devices.specs.declared.Outcome.{Outcome}
-use Rattle.devices.specs.declared.Outcome.TheVariants.{Committed}
+use Rattle.devices.specs.declared.Accepted.TheVariants.{Committed}
 use Rattle.devices.specs.Contents.{fresh_contents, merged}
-use Rattle.devices.specs.Effects.{answer_of, copies, refuse}
+use Rattle.devices.specs.Effects.{Outcome, answer_of, copies, refuse}
 use Rattle.rules.specs.Rules.{begun, ask_with, ask_pair, ask, marked, deliver, decided, allowed, steady, commit, adopt_or, advance_from, advance, ruled, effect_of}
 use Rattle.state.specs.declared.Run.{Run}
 use Rattle.state.specs.declared.Stepped.{Stepped}
@@ -84,7 +83,7 @@ InventsRounds version =
 
 record Facts : Type 0 where
   accepts : accepted (taken asks fresh7).outcome ≡ true
-  commits : (taken (Advance 0) answered).outcome ≡ Committed its_book
+  commits : (taken (Advance 0) answered).outcome ≡ Ok (Committed its_book)
   has_its_note : has_note 0 its_book.notes ≡ true
   first_has_not : has_note 0 (fresh_contents answered.first).v.notes ≡ false
   begun_at_one : (tablet_at 0 (taken asks fresh7).run).round ≡ 1
