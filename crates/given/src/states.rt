@@ -1,7 +1,7 @@
 // The state that the parts of an example give: a fresh run with what they name changed.
 use crate::text::{Part, byte, two_bytes};
 use books::{Book, Config, Listed, Notes};
-use devices::{Asking, Contents, Floor, Letter, Message, Notice, Phase, Tablet};
+use devices::{Asking, Contents, Letter, Message, Notice, Phase, Tablet};
 use state::{Run, Slot};
 
 // The place of each part among those that an example gives.
@@ -160,7 +160,7 @@ fn phase(part: Part) -> Phase {
         t: byte(part.fifth),
         candidates: notes,
         answered: two_bytes(part.sixth),
-        floor: Floor::Unset,
+        floor: None,
     })
 }
 

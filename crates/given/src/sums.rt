@@ -1,6 +1,6 @@
 // One number of a whole run, to see that a refused step hands back the very state.
 use books::{Book, Config};
-use devices::{Asking, Contents, Floor, Letter, Message, Phase, Tablet};
+use devices::{Asking, Contents, Letter, Message, Phase, Tablet};
 use state::Run;
 
 // A sum with a number more: 33 times the sum and the number. 33 is odd, so a change of one number alone changes the sum.
@@ -22,10 +22,10 @@ fn with_contents(sum: u64, contents: Contents, k: usize) -> u64 {
     more(v, books::notes_part(contents.candidates, k))
 }
 
-fn with_floor(sum: u64, floor: Floor, k: usize) -> u64 {
+fn with_floor(sum: u64, floor: Option<Book>, k: usize) -> u64 {
     match floor {
-        Floor::Unset => more(sum, 1),
-        Floor::Set(book) => with_book(sum, book, k),
+        None => more(sum, 1),
+        Some(book) => with_book(sum, book, k),
     }
 }
 

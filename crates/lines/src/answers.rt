@@ -1,6 +1,6 @@
 // A step's answer as the player and the lister print it: its number, and what an Advance adds to it.
 use books::{Book, Notes};
-use devices::Outcome;
+use devices::{Accepted, Outcome};
 use streams::{Out, put, put_decimal, put_hex};
 
 // 16 digits for each part of the notes, the highest part first.
@@ -42,17 +42,17 @@ fn put_values(
     outcome: Outcome,
 ) -> Out {
     match outcome {
-        Outcome::Done => out,
-        Outcome::Round(round) => put_decimal(rt, buffer, out, b" R ", round as u64),
-        Outcome::Committed(book) => {
+        Ok(Accepted::Done) => out,
+        Ok(Accepted::Round(round)) => put_decimal(rt, buffer, out, b" R ", round as u64),
+        Ok(Accepted::Committed(book)) => {
             let to = put(rt, buffer, out, b" C ");
             put_book(rt, buffer, to, book)
         }
-        Outcome::Adopted(book) => {
+        Ok(Accepted::Adopted(book)) => {
             let to = put(rt, buffer, out, b" A ");
             put_book(rt, buffer, to, book)
         }
-        Outcome::Refused(_) => out,
+        Err(_) => out,
     }
 }
 

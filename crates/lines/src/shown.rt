@@ -2,8 +2,7 @@
 use crate::listed::{put_first, put_listed};
 use crate::played::{put_end, put_played};
 use crate::refused::{put_bad, say_refused};
-use devices::{Outcome, Phase, Tablet};
-use replay::Decoded;
+use devices::{Accepted, Outcome, Phase, Tablet};
 use state::Run;
 use streams::{Ended, Out, no_text, read_all, written};
 use tape::Read;
@@ -21,11 +20,11 @@ pub enum Form {
 // How many books an outcome hands back.
 fn books_in(outcome: Outcome) -> u64 {
     match outcome {
-        Outcome::Done => 0,
-        Outcome::Round(_) => 0,
-        Outcome::Committed(_) => 1,
-        Outcome::Adopted(_) => 1,
-        Outcome::Refused(_) => 0,
+        Ok(Accepted::Done) => 0,
+        Ok(Accepted::Round(_)) => 0,
+        Ok(Accepted::Committed(_)) => 1,
+        Ok(Accepted::Adopted(_)) => 1,
+        Err(_) => 0,
     }
 }
 
@@ -72,7 +71,7 @@ fn put_line(
     word: u64,
     outcome: Outcome,
 ) -> Out {
-    let Decoded::Step(step) = replay::decode(word) else {
+    let Some(step) = replay::decode(word) else {
         return out;
     };
     match form {

@@ -1,7 +1,7 @@
 // What a step, the start and the unplug question answer, behind the words of an example.
-use devices::{Outcome, Step};
+use devices::{Accepted, Outcome, Step};
 use given::{Given, Part, byte, pair, state_of};
-use parlour::Unplug;
+use refusals::Refusal;
 use state::Run;
 
 pub(crate) fn say(rt: &impl Print, text: &[u8]) {
@@ -32,11 +32,11 @@ fn say_round(rt: &impl Print, round: u16) {
 // What an outcome brings besides its number.
 fn say_values(rt: &impl Print, outcome: Outcome) {
     match outcome {
-        Outcome::Done => (),
-        Outcome::Round(round) => say_round(rt, round),
-        Outcome::Committed(_) => say(rt, b" C"),
-        Outcome::Adopted(_) => say(rt, b" A"),
-        Outcome::Refused(_) => (),
+        Ok(Accepted::Done) => (),
+        Ok(Accepted::Round(round)) => say_round(rt, round),
+        Ok(Accepted::Committed(_)) => say(rt, b" C"),
+        Ok(Accepted::Adopted(_)) => say(rt, b" A"),
+        Err(_) => (),
     }
 }
 
@@ -71,11 +71,11 @@ fn show_start(rt: &impl Print, first: u16) {
     say_number(rt, devices::number_of(outcome) as u64);
 }
 
-fn say_unplug(rt: &impl Print, answer: Unplug) {
+fn say_unplug(rt: &impl Print, answer: Result<bool, Refusal>) {
     match answer {
-        Unplug::May => say(rt, b"0 yes"),
-        Unplug::MayNot => say(rt, b"0 no"),
-        Unplug::Unanswered(n) => say_number(rt, n as u64),
+        Ok(true) => say(rt, b"0 yes"),
+        Ok(false) => say(rt, b"0 no"),
+        Err(refusal) => say_number(rt, u8::from(refusal) as u64),
     }
 }
 
