@@ -18,5 +18,5 @@ pub extern "C" fn parlour_majority(added: u16, removed: u16, answered: u16) -> b
 pub extern "C" fn parlour_tape_check(tape: &[u8]) -> u8
     ensures { CheckPromise tape.now result }
 {
-    tape::tape_check(tape)
+    tape::tape_check(tape).err().map_or(0, u8::from)
 }

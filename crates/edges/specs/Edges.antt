@@ -1,6 +1,8 @@
 -- 01, "On both sides of each edge": the edges marked P, the case of "R 2", and the edges of request [1], in one table under one statement
 -- (`edges-hold`), each seen by computing the rules themselves.
-use Rattle.std.specs.Prelude.{ℕ, ◌+◌, ◌*◌, ◌^◌, Bool, true, false, List, [], ◌∷◌, ◌≡◌, refl, Option, Some, None, Ok, Err}
+use Rattle.std.specs.Prelude.{ℕ, ◌+◌, ◌*◌, ◌^◌, Bool, true, false, List, [], ◌∷◌, ◌≡◌, refl, Option, Some, None, Result, Ok, Err}
+use Rattle.refusals.specs.declared.Refusal.{Refusal}
+use Rattle.refusals.specs.declared.Refusal.TheVariants.{NotAllowed, NoFirstBox, EndsTooSoon, NoStep, BehindTheEnd}
 use Rattle.sets.specs.Choice.{pick}
 use Rattle.sets.specs.Sets.{inside}
 use Rattle.sets.specs.Bounded.{times, each, unions, how_many, those}
@@ -11,7 +13,6 @@ use Rattle.books.specs.declared.Listed.{Listed}
 use Rattle.books.specs.declared.Notes.{Notes}
 use Rattle.books.specs.Books.{notes_of, own_notes, no_config, members_of, has_majority}
 use Rattle.books.specs.Queried.{first_place, place_of, with_change, outside, joined_with, every_majority, asked_boxes}
-use Rattle.refusals.specs.declared.Refusal.TheVariants.{NotAllowed}
 use Rattle.devices.specs.declared.Accepted.TheVariants.{Round}
 use Rattle.devices.specs.declared.Phase.{Phase}
 use Rattle.devices.specs.declared.Phase.TheVariants.{Idle, Asks}
@@ -29,7 +30,7 @@ use Rattle.promise.specs.Promise.{after}
 use Rattle.tape.specs.Bits.{bit, odd, bits, num, bits_of, word}
 use Rattle.tape.specs.Layout.{fields_allowed, legal, numbers, fields_of, fields_in}
 use Rattle.tape.specs.Printed.{stops_box15}
-use Rattle.tape.specs.Reading.{begins, step_at, end_at, kind_at, read_at, Result, given, refused, words_of, read_from, read_steps, boxes_in, first_boxes, head_of, read_in, read_tape}
+use Rattle.tape.specs.Reading.{begins, step_at, end_at, kind_at, read_at, behind, words_of, read_from, read_steps, boxes_in, first_boxes, head_of, read_in, read_tape}
 use Rattle.tape.specs.Writing.{wide}
 use Rattle.replay.specs.Replay.{step_of, played}
 
@@ -74,7 +75,7 @@ floor_of (Asks a) = a.floor
 -- or first boxes, a step and the steps before it, the latest first, with the step's outcome
 pub data Edge : Type 0 where
   a_majority : ℕ → ℕ → ℕ → Bool → Edge
-  a_tape : List ℕ → Result → Edge
+  a_tape : List ℕ → Result (List ℕ) Refusal → Edge
   a_stop : List ℕ → ℕ → Edge
   a_candidates : List ℕ → ℕ → Notes → Edge
   a_query : ℕ → List Step → ℕ → ℕ → Query → Edge
@@ -126,22 +127,22 @@ edges =
     ∷ a_majority 0x0007 0x0000 0x0005 true
     ∷ a_majority 0x0000 0x0000 0xffff false
     -- "tape `00 07 e0` has no steps; `00 00 e0` is 12; `00 07` is 13; `00 07 e1` and `00 07 e0 00` are 15; `00 07 c0` becomes 13"
-    ∷ a_tape (0x00 ∷ 0x07 ∷ 0xe0 ∷ []) (given [])
-    ∷ a_tape (0x00 ∷ 0x00 ∷ 0xe0 ∷ []) (refused 12)
-    ∷ a_tape (0x00 ∷ 0x07 ∷ []) (refused 13)
-    ∷ a_tape (0x00 ∷ 0x07 ∷ 0xe1 ∷ []) (refused 15)
-    ∷ a_tape (0x00 ∷ 0x07 ∷ 0xe0 ∷ 0x00 ∷ []) (refused 15)
-    ∷ a_tape (0x00 ∷ 0x07 ∷ 0xc0 ∷ []) (refused 13)
+    ∷ a_tape (0x00 ∷ 0x07 ∷ 0xe0 ∷ []) (Ok [])
+    ∷ a_tape (0x00 ∷ 0x00 ∷ 0xe0 ∷ []) (Err NoFirstBox)
+    ∷ a_tape (0x00 ∷ 0x07 ∷ []) (Err EndsTooSoon)
+    ∷ a_tape (0x00 ∷ 0x07 ∷ 0xe1 ∷ []) (Err BehindTheEnd)
+    ∷ a_tape (0x00 ∷ 0x07 ∷ 0xe0 ∷ 0x00 ∷ []) (Err BehindTheEnd)
+    ∷ a_tape (0x00 ∷ 0x07 ∷ 0xc0 ∷ []) (Err EndsTooSoon)
     -- "`00 07 b7 e0` stops box 15; `00 07 b8 e0` is 14; `00 07 a0` is 13"
-    ∷ a_tape (0x00 ∷ 0x07 ∷ 0xb7 ∷ 0xe0 ∷ []) (given (stops_box15 ∷ []))
+    ∷ a_tape (0x00 ∷ 0x07 ∷ 0xb7 ∷ 0xe0 ∷ []) (Ok (stops_box15 ∷ []))
     ∷ a_stop (0x00 ∷ 0x07 ∷ 0xb7 ∷ 0xe0 ∷ []) 23
-    ∷ a_tape (0x00 ∷ 0x07 ∷ 0xb8 ∷ 0xe0 ∷ []) (refused 14)
-    ∷ a_tape (0x00 ∷ 0x07 ∷ 0xa0 ∷ []) (refused 13)
+    ∷ a_tape (0x00 ∷ 0x07 ∷ 0xb8 ∷ 0xe0 ∷ []) (Err NoStep)
+    ∷ a_tape (0x00 ∷ 0x07 ∷ 0xa0 ∷ []) (Err EndsTooSoon)
     -- "A long Ask whose last eight notes are all absent is not a tape step": tablet 0 with own notes 0x0100, and with 0x00ff
-    ∷ a_tape (0x00 ∷ 0x07 ∷ 0xc0 ∷ 0x04 ∷ 0x00 ∷ 0x00 ∷ 0x00 ∷ 0x00 ∷ 0x03 ∷ 0x80 ∷ []) (given (0xc004000000000000 ∷ []))
-    ∷ a_tape (0x00 ∷ 0x07 ∷ 0xc0 ∷ 0x03 ∷ 0xfc ∷ 0x00 ∷ 0x00 ∷ 0x00 ∷ 0x03 ∷ 0x80 ∷ []) (refused 14)
+    ∷ a_tape (0x00 ∷ 0x07 ∷ 0xc0 ∷ 0x04 ∷ 0x00 ∷ 0x00 ∷ 0x00 ∷ 0x00 ∷ 0x03 ∷ 0x80 ∷ []) (Ok (0xc004000000000000 ∷ []))
+    ∷ a_tape (0x00 ∷ 0x07 ∷ 0xc0 ∷ 0x03 ∷ 0xfc ∷ 0x00 ∷ 0x00 ∷ 0x00 ∷ 0x03 ∷ 0x80 ∷ []) (Err NoStep)
     -- too few bits come first, though the last eight notes are seen to be absent
-    ∷ a_tape (0x00 ∷ 0x07 ∷ 0xc0 ∷ 0x03 ∷ 0xfc ∷ 0x00 ∷ 0x00 ∷ 0x00 ∷ []) (refused 13)
+    ∷ a_tape (0x00 ∷ 0x07 ∷ 0xc0 ∷ 0x03 ∷ 0xfc ∷ 0x00 ∷ 0x00 ∷ 0x00 ∷ []) (Err EndsTooSoon)
     -- "The old Ask stays and means the first eight of the sixteen": notes 112 to 119 of tablet 7
     ∷ a_candidates first_eight_asked 7 (notes_of (0xff * 2 ^ 112))
     -- "Tablet t is to own 16t to 16t+15": note 127 is the highest of tablet 7

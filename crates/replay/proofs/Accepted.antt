@@ -11,7 +11,8 @@ use borrow.Author.Tests.{lt-ltb}
 use Rattle.tape.specs.Bits.{bits, num}
 use Rattle.tape.specs.Edition.{first_edition}
 use Rattle.tape.specs.Layout.{width, fields_of, fields_in}
-use Rattle.tape.specs.Reading.{given, read_tape}
+use Rattle.std.specs.Prelude.{Ok}
+use Rattle.tape.specs.Reading.{read_tape}
 use Rattle.tape.specs.Writing.{wide, all_steps}
 use Rattle.tape.specs.declared.Fields.{Fields}
 use Rattle.tape.proofs.StepLaws.{wide-none}
@@ -53,5 +54,5 @@ each-wide [] h i l = absurd (omega arith)
 each-wide (x ∷ xs) h zero l = (all_cons first_edition x xs h).0
 each-wide (x ∷ xs) h (suc i) l = each-wide xs (all_cons first_edition x xs h).1 i (omega arith)
 
-pub accepted-plays : (tape xs : List ℕ) → read_tape tape ≡ given xs → (i : ℕ) → i < length xs → Plays (get_or xs i 0)
+pub accepted-plays : (tape xs : List ℕ) → read_tape tape ≡ Ok xs → (i : ℕ) → i < length xs → Plays (get_or xs i 0)
 accepted-plays tape xs e i h = word-plays (get_or xs i 0) (each-wide xs (accepted-part first_edition tape xs e).0 i h)

@@ -16,7 +16,8 @@ use Rattle.tape.specs.Bits.{bit, bits, num, Bytes}
 use Rattle.tape.specs.Edition.{field, first_edition}
 use Rattle.tape.specs.declared.Fields.{Fields}
 use Rattle.tape.specs.Layout.{fields, width, numbers, kind_of, fields_of, fields_in, no_field}
-use Rattle.tape.specs.Reading.{given, words_of, read_tape, first_boxes}
+use Rattle.std.specs.Prelude.{Ok}
+use Rattle.tape.specs.Reading.{words_of, read_tape, first_boxes}
 use Rattle.tape.specs.Statements.{MayHold}
 use Rattle.tape.specs.Writing.{wide, is_step, all_steps, write_tape}
 use Rattle.tape.proofs.StepLaws.{wide-none}
@@ -175,7 +176,7 @@ words-settled (x ∷ xs) (y ∷ ys) h e =
     let tail : map step_of xs ≡ map step_of ys = ap (drop 1) e in
     ap₂ ◌∷◌ (word-settled x y plays.step plays.is (sym head ∙ plays.is)) (words-settled xs ys parts.1 tail)
 
-pub tape-settled : (a b xs ys : List ℕ) → Bytes a → Bytes b → read_tape a ≡ given xs → read_tape b ≡ given ys
+pub tape-settled : (a b xs ys : List ℕ) → Bytes a → Bytes b → read_tape a ≡ Ok xs → read_tape b ≡ Ok ys
     → first_boxes a ≡ first_boxes b → map step_of xs ≡ map step_of ys → a ≡ b
 tape-settled a b xs ys ba bb ra rb first steps =
     let same = words-settled xs ys (accepted-part first_edition a xs ra).0 steps in

@@ -1,6 +1,6 @@
 -- What holds of a tape that is played, beside what each call does: a contract settles its result, a word is refused by its number exactly
 -- when it is no step, a step has one word, steps are on one tape only, and each word of an accepted tape is a step, which playing it takes. Proved in proofs/Statements.
-use Rattle.std.specs.Prelude.{ℕ, ◌^◌, ◌<◌, true, List, map, ◌≡◌, length, get_or, Option, Some}
+use Rattle.std.specs.Prelude.{ℕ, ◌^◌, ◌<◌, true, List, map, ◌≡◌, length, get_or, Option, Some, Ok}
 use Rattle.sets.specs.Choice.{pick}
 use Rattle.sets.specs.Settles.{Settles}
 use Rattle.devices.specs.declared.Step.{Step}
@@ -11,7 +11,7 @@ use Rattle.state.specs.declared.Stepped.{Stepped}
 use Rattle.parlour.specs.Steps.{taken}
 use Rattle.tape.specs.Bits.{Bytes}
 use Rattle.tape.specs.Edition.{first_edition}
-use Rattle.tape.specs.Reading.{given, read_tape, first_boxes}
+use Rattle.tape.specs.Reading.{read_tape, first_boxes}
 use Rattle.tape.specs.Writing.{is_step}
 use Rattle.replay.specs.Replay.{step_of, decoded_number, played, PlayPromise}
 
@@ -49,7 +49,7 @@ pub record Statements : Type 0 where
   -- "A long Ask whose last eight notes are all absent is not a tape step": so no step has two
   pub one_word : (x y : ℕ) (step : Step) → step_of x ≡ Some step → step_of y ≡ Some step → x ≡ y
   -- and the same steps from the same first boxes are on one tape only
-  pub one_tape : (a b xs ys : List ℕ) → Bytes a → Bytes b → read_tape a ≡ given xs → read_tape b ≡ given ys
+  pub one_tape : (a b xs ys : List ℕ) → Bytes a → Bytes b → read_tape a ≡ Ok xs → read_tape b ≡ Ok ys
       → first_boxes a ≡ first_boxes b → map step_of xs ≡ map step_of ys → a ≡ b
   -- each word of an accepted tape
-  pub accepted : (tape words : List ℕ) → read_tape tape ≡ given words → (i : ℕ) → i < length words → Plays (get_or words i 0)
+  pub accepted : (tape words : List ℕ) → read_tape tape ≡ Ok words → (i : ℕ) → i < length words → Plays (get_or words i 0)

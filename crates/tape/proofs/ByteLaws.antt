@@ -8,6 +8,7 @@ use native.Mathlib.Omega.{arith}
 use lib.ListN.{length, take, drop, get_or, length-append, length-drop, replicate, length-replicate, take-append-drop}
 use lib.Seq.{length-take-le, take-append-le, take_at, drop_at, drop-drop, drop-nil, get_or-drop}
 use lib.Bits.{bit_or}
+use Rattle.std.proofs.lemmas.List.{get_or-take}
 use Rattle.tape.specs.Bits.{num, bits, bits_of, Bytes, window, Ahead}
 use Rattle.tape.specs.Writing.{pack}
 use Rattle.tape.proofs.BitLaws.{length-bits, num-append, num-lt, num-bits-small, num-drop, num-take-lt, num-zeros, bits_is, bits-part, cut-append}
@@ -69,6 +70,53 @@ window-join a b s i x y h e f =
     ∙ ap₂ (λ (u v : ℕ). u * 2 ^ (8 * b) + v) e f
     ∙ sym (ap num (window-add a b s i) ∙ num-append (window a s i) (window b s (i + a))
     ∙ ap (λ (n : ℕ). num (window a s i) * 2 ^ n + num (window b s (i + a))) (length-window b s (i + a)))
+
+-- the first byte of a window, and the rest of it
+num-window : (n : ℕ) (s : List ℕ) (i j : ℕ) → Bytes s → suc i ≡ j → num (window (suc n) s i) ≡ get_or s i 0 * 2 ^ (8 * n) + num (window n s j)
+unfolding window
+num-window n s i j b e =
+    num-append (bits 8 (get_or s i 0)) (window n s (suc i))
+    ∙ ap₂ (λ (u v : ℕ). u * 2 ^ v + num (window n s (suc i))) (num-bits-small 8 (get_or s i 0) (b i)) (length-window n s (suc i))
+    ∙ ap (λ k. get_or s i 0 * 2 ^ (8 * n) + num (window n s k)) e
+
+num-window-none : (s : List ℕ) (i : ℕ) → num (window 0 s i) ≡ 0
+unfolding num window
+num-window-none s i = refl
+
+-- eight bytes as one number
+pub window-eight : (s bs : List ℕ) (i x : ℕ) → Bytes s → bs ≡ take 8 (drop i s)
+    → x ≡ get_or bs 0 0 * 0x100000000000000 + get_or bs 1 0 * 0x1000000000000 + get_or bs 2 0 * 0x10000000000 + get_or bs 3 0 * 0x100000000
+    + get_or bs 4 0 * 0x1000000 + get_or bs 5 0 * 0x10000 + get_or bs 6 0 * 0x100 + get_or bs 7 0
+    → x ≡ num (window 8 s i)
+window-eight s bs i x b e h =
+    omega (
+      arith,
+      h,
+      byte 0 (omega arith),
+      byte 1 (omega arith),
+      byte 2 (omega arith),
+      byte 3 (omega arith),
+      byte 4 (omega arith),
+      byte 5 (omega arith),
+      byte 6 (omega arith),
+      byte 7 (omega arith),
+      ap (λ k. num (window 8 s k)) (add-zero i),
+      next 7 0,
+      next 6 1,
+      next 5 2,
+      next 4 3,
+      next 3 4,
+      next 2 5,
+      next 1 6,
+      next 0 7,
+      num-window-none s (i + 8),
+    )
+  where
+    byte : (k : ℕ) → k < 8 → get_or bs k 0 ≡ get_or s (i + k) 0
+    byte k l = ap (λ z. get_or z k 0) e ∙ get_or-take 8 (drop i s) k 0 l ∙ get_or-drop i s k 0
+
+    next : (n k : ℕ) → num (window (suc n) s (i + k)) ≡ get_or s (i + k) 0 * 2 ^ (8 * n) + num (window n s (i + suc k))
+    next n k = num-window n s (i + k) (i + suc k) b (omega arith)
 
 pub window-three : (s : List ℕ) (i : ℕ) → window 3 s i ≡ bits 8 (get_or s i 0) ++ (bits 8 (get_or s (i + 1) 0) ++ bits 8 (get_or s (i + 2) 0))
 unfolding window

@@ -9,12 +9,12 @@ use lib.ListN.{length, take, drop, get_or, length-drop, take-append-drop}
 use lib.Seq.{take-take, drop-drop, take-append-le, drop-append-le, length-take-le}
 use lib.Dec.{leb, eqb}
 use borrow.Author.Tests.{le-leb, leb-true, eqb-true}
+use Rattle.std.specs.Prelude.{Some, None}
 use Rattle.tape.specs.Bits.{num, bits, field_at}
 use Rattle.tape.specs.Edition.{Field, span, step_width, fits, every, Edition, first_edition, edition_of}
-use Rattle.tape.specs.Layout.{fields, width, fields_allowed, legal, numbers, fields_of, no_field, full, bound_of, layout_of}
+use Rattle.tape.specs.Layout.{fields, width, fields_allowed, legal, numbers, fields_of, no_field, full, bound_of, laid_out, layout_of, allowed}
 use Rattle.tape.specs.declared.edition.Edition.{Edition as InCode}
-use Rattle.tape.specs.declared.layout.Bound.{Bound}
-use Rattle.tape.specs.declared.layout.Bound.TheVariants as B
+use Rattle.tape.specs.declared.layout.Layout.{Layout}
 use Rattle.tape.specs.declared.edition.Edition.TheVariants as E
 use Rattle.tape.proofs.BitLaws.{length-bits, num-take-lt}
 use Rattle.tape.proofs.WordLaws.{field-inside}
@@ -83,9 +83,9 @@ module _ (ed : Edition) where
       go (x ∷ xs) h = omega arith
 
   -- where the second, the third and the fourth field begin, in the word
-  pub row-places : (k : ℕ) → (3 + (layout_of (fields ed k)).first ≡ 3 + span (take 1 (fields ed k)))
-      × (3 + (layout_of (fields ed k)).first + (layout_of (fields ed k)).second ≡ 3 + span (take 2 (fields ed k)))
-      × (3 + (layout_of (fields ed k)).first + (layout_of (fields ed k)).second + (layout_of (fields ed k)).third ≡ 3 + span (take 3 (fields ed k)))
+  pub row-places : (k : ℕ) → (3 + (laid_out (fields ed k)).first ≡ 3 + span (take 1 (fields ed k)))
+      × (3 + (laid_out (fields ed k)).first + (laid_out (fields ed k)).second ≡ 3 + span (take 2 (fields ed k)))
+      × (3 + (laid_out (fields ed k)).first + (laid_out (fields ed k)).second + (laid_out (fields ed k)).third ≡ 3 + span (take 3 (fields ed k)))
       × (3 + span (take 3 (fields ed k)) ≤ 64)
   row-places k =
       let xs = fields ed k in
@@ -133,13 +133,8 @@ unfolding all_full fields_allowed
 in-full [] f h = refl
 in-full (x ∷ xs) f h = let b = both (full x) h in full-next x xs f b.0 ∙ in-full xs (drop x.width f) b.1
 
--- a word keeps a bound
-abbrev pub within : Bound → ℕ → Bool
-within B.None x = true
-within (B.Within from w a b) x = cond (leb a (field_at x from w)) (leb (field_at x from w) b) false
-
 -- some fields of a word, from a bit on, are judged by their bound
-in-bound : (xs : List Field) (from x : ℕ) → from + span xs ≤ 64 → one_bound xs ≡ true → fields_allowed xs (drop from (bits 64 x)) ≡ within (bound_of from xs) x
+in-bound : (xs : List Field) (from x : ℕ) → from + span xs ≤ 64 → one_bound xs ≡ true → fields_allowed xs (drop from (bits 64 x)) ≡ allowed (bound_of from xs) x
 unfolding one_bound fields_allowed
 in-bound [] from x l h = refl
 in-bound (y ∷ ys) from x l h = go (full y) refl h (in-bound ys (from + y.width) x (omega arith))
@@ -152,8 +147,8 @@ in-bound (y ∷ ys) from x l h = go (full y) refl h (in-bound ys (from + y.width
     itself false = refl
 
     go : (b : Bool) → full y ≡ b → cond b (one_bound ys) (all_full ys) ≡ true
-        → (one_bound ys ≡ true → fields_allowed ys (drop (from + y.width) (bits 64 x)) ≡ within (bound_of (from + y.width) ys) x)
-        → fields_allowed (y ∷ ys) f ≡ within (cond b (bound_of (from + y.width) ys) (B.Within from y.width y.least y.most)) x
+        → (one_bound ys ≡ true → fields_allowed ys (drop (from + y.width) (bits 64 x)) ≡ allowed (bound_of (from + y.width) ys) x)
+        → fields_allowed (y ∷ ys) f ≡ allowed (cond b (bound_of (from + y.width) ys) (Some (record { from = from; width = y.width; least = y.least; most = y.most }))) x
     go true e h next = full-next y ys f e ∙ ap (fields_allowed ys) (drop-drop y.width from (bits 64 x)) ∙ next h
     go false e h next =
         let n = num (take y.width f) in
@@ -192,5 +187,30 @@ rows_bound E.First k = every-at one_bound refl first_edition.rows refl k
 
 -- a step word of such an edition is judged by its bound
 pub legal-bound : (e : InCode) (x k : ℕ) → k ≡ num (take 3 (bits 64 x)) → width (edition_of e) k ≢ 0
-    → within (layout_of (fields (edition_of e) k)).bound x ≡ legal (edition_of e) (take (width (edition_of e) k) (bits 64 x))
+    → allowed (laid_out (fields (edition_of e) k)).bound x ≡ legal (edition_of e) (take (width (edition_of e) k) (bits 64 x))
 legal-bound e x k n h = sym (legal-fields (edition_of e) x k n h ∙ in-bound (fields (edition_of e) k) 3 x (span_fits (edition_of e) k) (rows_bound e k))
+
+-- a layout that the table has for a kind is that of its fields, which make a step
+pub record LaidOut (e : InCode) (k : ℕ) (l : Layout) : Type 0 where
+  pub is : l ≡ laid_out (fields (edition_of e) k)
+  pub wide : l.width ≡ width (edition_of e) k
+  pub some : width (edition_of e) k ≢ 0
+  pub judged : (x : ℕ) → k ≡ num (take 3 (bits 64 x)) → allowed l.bound x ≡ legal (edition_of e) (take (width (edition_of e) k) (bits 64 x))
+
+pub laid-out : (e : InCode) (k : ℕ) (l : Layout) → Some l ≡ layout_of (fields (edition_of e) k) → LaidOut e k l
+laid-out e k l h =
+    let f = from-fields (fields (edition_of e) k) h in
+    record {
+      is = f.0;
+      wide = ap (λ (m : Layout). m.width) f.0;
+      some = f.1;
+      judged = λ x n. ap (λ (m : Layout). allowed m.bound x) f.0 ∙ legal-bound e x k n f.1;
+    }
+  where
+    from-fields : (xs : List Field) → Some l ≡ layout_of xs → (l ≡ laid_out xs) × (step_width xs ≢ 0)
+    from-fields [] h = cc
+    from-fields (x ∷ xs) h = let i : l ≡ laid_out (x ∷ xs) = cc in (i, λ z. absurd (omega (arith, z)))
+
+pub not-laid : (xs : List Field) → None ≡ layout_of xs → xs ≡ []
+not-laid [] e = refl
+not-laid (x ∷ xs) e = cc

@@ -9,6 +9,7 @@ use lib.ListN.{length, take, drop, length-append, length-take, length-drop, take
 use lib.Seq.{take-append-le, take_all, take-take, take-add, length-take-le, drop-drop}
 use lib.Dec.{leb, ltb, eqb}
 use borrow.Author.Tests.{lt-ltb, le-ltb, le-leb, lt-leb, eq-eqb, ne_eqb, leb-true, leb-false, eqb-false, eqb-true, ltb-true, ltb-false}
+use Rattle.refusals.specs.declared.Refusal.TheVariants.{BehindTheEnd}
 use Rattle.tape.specs.Bits.{num, bits, field_at, Ahead}
 use Rattle.tape.specs.Reading.{end_at, begins}
 use Rattle.tape.specs.declared.reading.Reading.TheVariants.{Refused, End}
@@ -62,15 +63,15 @@ module _ (m : List Bool) (x left : ℕ) (small : length m ≤ 6) where
           mark-short h ∙ sym (begins-short m (drop p t) (rw length-drop (omega arith)))
 
 module _ (t : List Bool) (p : ℕ) where
-  pub end-long : p + 8 ≤ length t → end_at t p ≡ Refused 15
+  pub end-long : p + 8 ≤ length t → end_at t p ≡ Refused BehindTheEnd
   unfolding end_at
   end-long h = simp (le-ltb _ _ h)
 
-  pub end-set : num (drop p t) ≢ 0 → end_at t p ≡ Refused 15
+  pub end-set : num (drop p t) ≢ 0 → end_at t p ≡ Refused BehindTheEnd
   unfolding end_at
   end-set h = go (ltb (length t) (p + 8))
     where
-      go : (b : Bool) → cond b (cond (eqb (num (drop p t)) 0) End (Refused 15)) (Refused 15) ≡ Refused 15
+      go : (b : Bool) → cond b (cond (eqb (num (drop p t)) 0) End (Refused BehindTheEnd)) (Refused BehindTheEnd) ≡ Refused BehindTheEnd
       go true = simp (ne_eqb _ _ h)
       go false = refl
 

@@ -1,59 +1,60 @@
 -- Laws of answers: what a refusal and what a success promise, for a row and for a buffer alike.
 use mathlib.Core.Path.{◌≡◌, refl, sym, ap, ◌∙◌}
-use mathlib.Core.Logic.{◌≢◌}
 use Prim.Native.Nat.{ℕ, ◌+◌, ◌≤◌, ◌<◌}
 use mathlib.Core.List.{List, [], ◌++◌}
-use mathlib.Core.Bool.{Bool, true, false, cond}
-use native.Mathlib.Nat.{zero-add}
-use native.Mathlib.Omega.{arith}
 use lib.ListN.{length, drop}
-use lib.Dec.{leb}
-use borrow.Author.Tests.{le-leb, lt-leb, leb-true}
-use Rattle.tape.specs.Reading.{Result, given, refused, words_of}
-use Rattle.tape.specs.Promises.{Answer, answer, number_with, number, answer_with, held_by}
-use Rattle.tape.proofs.ReadingLaws.{Numbered}
+use borrow.Author.Tests.{le-leb, lt-leb}
+use native.Mathlib.Nat.{zero-add}
+use Rattle.std.specs.Prelude.{Result, Ok, Err}
+use Rattle.std.specs.Result.{IsErrAnd}
+use Rattle.refusals.specs.Refusals.{number}
+use Rattle.refusals.specs.declared.Refusal.{Refusal}
+use Rattle.refusals.specs.declared.Refusal.TheVariants.{RowTooShort}
+use Rattle.tape.specs.Reading.{Outcome, words_of}
+use Rattle.tape.specs.Promises.{Answer, answer, recorded, counted, recorded_as, answer_with, held_by}
+use Rattle.tape.specs.declared.Recorded.{Recorded}
 
--- with room enough the number is that of the outcome
-pub number-enough : (o : Result) (n : ℕ) → ((xs : List ℕ) → o ≡ given xs → length xs ≤ n) → number_with n 0 o ≡ number o
-number-enough (given xs) n h =
-    let m : 0 + length xs ≤ n = omega (arith, h xs refl) in
-    simp (le-leb _ _ m)
-number-enough (refused k) n h = refl
+-- a `?` hands the refusal on
+pub handed-on : {T : Type 0} (r : Result T Refusal) (e : Refusal) → IsErrAnd r (λ d. d ≡ e) → r ≡ Err e
+handed-on (Ok v) e h = absurd h
+handed-on (Err d) e h = ap Err h
 
--- the number 0 is a success that fits
-pub number-zero : (o : Result) (n : ℕ) → Numbered o → number_with n 0 o ≡ 0 → (o ≡ given (words_of o)) × (length (words_of o) ≤ n)
-number-zero (given xs) n r h = go (leb (0 + length xs) n) refl h
-  where
-    go : (b : Bool) → leb (0 + length xs) n ≡ b → ◌≡◌ {A = ℕ} (cond b 0 16) 0 → (given xs ≡ given xs) × (length xs ≤ n)
-    go true e h = let m : 0 + length xs ≤ n = leb-true (0 + length xs) n e in (refl, omega arith)
-    go false e h = absurd (omega arith)
-number-zero (refused k) n r h = absurd (omega arith)
+-- what a tape holds where its steps are counted, and where it is refused
+pub recorded-counted : (first n : ℕ) (o : Outcome) → Ok n ≡ counted 0 o → Ok (recorded first n) ≡ recorded_as first o
+recorded-counted first n (Ok xs) h = let e : n ≡ 0 + length xs = cc in ap (λ m. Ok (recorded first m)) (e ∙ zero-add (length xs))
+recorded-counted first n (Err e) h = cc
 
-pub number-refused : (o : Result) (n k : ℕ) → o ≡ refused k → k ≡ number_with n 0 o
-number-refused o n k e = sym (ap (number_with n 0) e)
+pub recorded-refused : (first : ℕ) (e : Refusal) (o : Outcome) → Err e ≡ counted 0 o → Err e ≡ recorded_as first o
+recorded-refused first e (Ok xs) h = cc
+recorded-refused first e (Err d) h = cc
 
-pub number_short : (o : Result) (n : ℕ) (xs : List ℕ) → o ≡ given xs → n < length xs → 16 ≡ number_with n 0 o
-number_short o n xs e h =
-    let m : n < 0 + length xs = omega arith in
-    sym (ap (number_with n 0) e ∙ simp (lt-leb _ _ m))
+pub refused-is : (first : ℕ) (e : Refusal) (o : Outcome) → Err e ≡ recorded_as first o → o ≡ Err e
+refused-is first e (Ok xs) h = cc
+refused-is first e (Err d) h = cc
+
+pub recorded-is : (first : ℕ) (r : Recorded) (o : Outcome) → Ok r ≡ recorded_as first o → (o ≡ Ok (words_of o)) × (r ≡ recorded first (length (words_of o)))
+recorded-is first r (Ok xs) h = (refl, cc)
+recorded-is first r (Err d) h = cc
 
 -- what is promised of an answer and of what is lent
-pub record Kept (lent : List ℕ) (vs : List ℕ → List ℕ) (o : Result) (a : Answer) (after : List ℕ) : Type 0 where
+pub record Kept (lent : List ℕ) (vs : List ℕ → List ℕ) (o : Outcome) (a : Answer) (after : List ℕ) : Type 0 where
   pub told : a ≡ answer_with (length lent) vs o
   pub held : after ≡ held_by lent o
 
 -- a refusal carries no value, and leaves what is lent
-pub refusal-kept : (lent : List ℕ) (vs : List ℕ → List ℕ) (o : Result) (k : ℕ) → k ≡ number_with (length lent) 0 o → k ≢ 0 → Kept lent vs o (answer k []) lent
-refusal-kept lent vs (given xs) k e n = go (leb (0 + length xs) (length lent)) (leb (length xs) (length lent)) (ap (λ m. leb m (length lent)) (zero-add (length xs))) refl e
-  where
-    go : (b c : Bool) → b ≡ c → leb (length xs) (length lent) ≡ c → k ≡ cond b 0 16 → Kept lent vs (given xs) (answer k []) lent
-    go true c h f e = absurd (n e)
-    go false true h f e = let z : ◌≡◌ {A = ℕ} 0 1 = cc in absurd (omega arith)
-    go false false h f e = record { told = ap (λ j. answer j []) e ∙ sym (simp f); held = sym (simp f) }
-refusal-kept lent vs (refused j) k e n = record { told = ap (λ i. answer i []) e; held = refl }
+pub refusal-kept : (lent : List ℕ) (vs : List ℕ → List ℕ) (o : Outcome) (e : Refusal) → o ≡ Err e → Kept lent vs o (answer (number e) []) lent
+refusal-kept lent vs o e h = record { told = sym (ap (answer_with (length lent) vs) h); held = sym (ap (held_by lent) h) }
+
+-- so does one where too little is lent
+pub short-kept : (lent : List ℕ) (vs : List ℕ → List ℕ) (o : Outcome) (xs : List ℕ) → o ≡ Ok xs → length lent < length xs
+    → Kept lent vs o (answer (number RowTooShort) []) lent
+short-kept lent vs o xs e h = record {
+  told = sym (ap (answer_with (length lent) vs) e ∙ simp (lt-leb _ _ h));
+  held = sym (ap (held_by lent) e ∙ simp (lt-leb _ _ h));
+}
 
 -- a success has its values, and is overlaid over the front
-pub success-kept : (lent : List ℕ) (vs : List ℕ → List ℕ) (o : Result) (xs : List ℕ) → o ≡ given xs → length xs ≤ length lent
+pub success-kept : (lent : List ℕ) (vs : List ℕ → List ℕ) (o : Outcome) (xs : List ℕ) → o ≡ Ok xs → length xs ≤ length lent
     → Kept lent vs o (answer 0 (vs xs)) (xs ++ drop (length xs) lent)
 success-kept lent vs o xs e h = record {
   told = sym (ap (answer_with (length lent) vs) e ∙ simp (le-leb _ _ h));

@@ -1,7 +1,7 @@
 -- The cases of the definitions of reading, one law for each; and that readings go on.
 use mathlib.Core.Path.{◌≡◌, refl, sym, ap, ◌∙◌}
 use mathlib.Core.Logic.{◌≢◌}
-use Prim.Native.Nat.{ℕ, zero, suc, ◌+◌, ◌-◌, ◌≤◌, ◌<◌}
+use Prim.Native.Nat.{ℕ, suc, ◌+◌, ◌-◌, ◌≤◌, ◌<◌}
 use mathlib.Core.List.{List, [], ◌∷◌}
 use mathlib.Core.Bool.{Bool, true, false, cond}
 use native.Mathlib.Nat.{add-zero}
@@ -10,13 +10,16 @@ use lib.ListN.{length, take, drop, length-drop, take-append-drop}
 use lib.Seq.{take-take, length-take-le}
 use lib.Dec.{leb, ltb, eqb}
 use borrow.Author.Tests.{le-leb, lt-leb, eq-eqb, ne_eqb, leb-true, eqb-false, eqb-true, ltb-true}
+use Rattle.refusals.specs.declared.Refusal.{Refusal}
+use Rattle.refusals.specs.declared.Refusal.TheVariants.{EndsTooSoon, NoStep, BehindTheEnd}
 use Rattle.tape.specs.Bits.{bit, num, bits, word, Ahead}
 use Rattle.tape.specs.Edition.{Edition, first_edition, edition_of}
 use Rattle.tape.specs.declared.edition.Edition.{Edition as InCode}
 use Rattle.tape.specs.declared.edition.Edition.TheVariants as E
 use Rattle.tape.specs.Layout.{width, legal}
-use Rattle.tape.specs.Reading.{step_at, kind_at, end_at, begins, end_or, read_at, Result, given, refused, more, onward, read_from}
-use Rattle.tape.specs.Promises.{number_with, number_at_end}
+use Rattle.std.specs.Prelude.{Ok, Err}
+use Rattle.tape.specs.Reading.{step_at, kind_at, end_at, begins, end_or, read_at, Outcome, more, onward, read_from}
+use Rattle.tape.specs.Promises.{counted, ended_at}
 use Rattle.tape.specs.declared.reading.Reading.{Reading}
 use Rattle.tape.specs.declared.reading.Reading.TheVariants.{Step, Refused, End}
 use Rattle.tape.proofs.LayoutLaws.{cond_has, width-least}
@@ -29,11 +32,11 @@ Moves t p (Refused k) = Unit {0}
 Moves t p End = Unit {0}
 
 module _ (ed : Edition) (t : List Bool) (p : ℕ) where
-  pub step-short : (w : ℕ) → length t < p + w → step_at ed t p w ≡ Refused 13
+  pub step-short : (w : ℕ) → length t < p + w → step_at ed t p w ≡ Refused EndsTooSoon
   unfolding step_at
   step-short w h = simp (lt-leb _ _ h)
 
-  pub step-bad : (w : ℕ) → p + w ≤ length t → legal ed (take w (drop p t)) ≡ false → step_at ed t p w ≡ Refused 14
+  pub step-bad : (w : ℕ) → p + w ≤ length t → legal ed (take w (drop p t)) ≡ false → step_at ed t p w ≡ Refused NoStep
   unfolding step_at
   step-bad w h e = simp (le-leb _ _ h, e)
 
@@ -45,7 +48,7 @@ module _ (ed : Edition) (t : List Bool) (p : ℕ) where
   unfolding kind_at
   kind-step k h = simp (ne_eqb _ _ h)
 
-  pub kind-none : (k : ℕ) → width ed k ≡ 0 → kind_at ed t p k ≡ Refused 14
+  pub kind-none : (k : ℕ) → width ed k ≡ 0 → kind_at ed t p k ≡ Refused NoStep
   unfolding kind_at
   kind-none k e = simp (eq-eqb _ _ e)
 
@@ -53,7 +56,7 @@ module _ (ed : Edition) (t : List Bool) (p : ℕ) where
   unfolding read_at
   read-mark e = simp e
 
-  pub read_short : begins ed.mark (drop p t) ≡ false → length t < p + 3 → read_at ed t p ≡ Refused 13
+  pub read_short : begins ed.mark (drop p t) ≡ false → length t < p + 3 → read_at ed t p ≡ Refused EndsTooSoon
   unfolding read_at
   read_short e h = simp (e, lt-leb _ _ h)
 
@@ -62,7 +65,7 @@ module _ (ed : Edition) (t : List Bool) (p : ℕ) where
   read-kind k e h f = simp (e, le-leb _ _ h, f)
 
   -- a property of every reading: of a refusal, of the end, and of a step
-  pub read_has : (P : Reading → Type 0) → ((k : ℕ) → 0 < k → P (Refused k))
+  pub read_has : (P : Reading → Type 0) → ((e : Refusal) → P (Refused e))
       → (begins ed.mark (drop p t) ≡ true → length t < p + length ed.mark + 8 → num (drop (p + length ed.mark) t) ≡ 0 → P End)
       → ((k : ℕ) → begins ed.mark (drop p t) ≡ false → num (take 3 (drop p t)) ≡ k → width ed k ≢ 0 → p + width ed k ≤ length t
       → legal ed (take (width ed k) (drop p t)) ≡ true → P (Step (word (take (width ed k) (drop p t))) (p + width ed k)))
@@ -71,19 +74,19 @@ module _ (ed : Edition) (t : List Bool) (p : ℕ) where
   read_has P bad end step =
       cond_has P (begins ed.mark (drop p t))
       (λ m. cond_has P (ltb (length t) (p + length ed.mark + 8))
-      (λ l. cond_has P (eqb (num (drop (p + length ed.mark) t)) 0) (λ z. end m (ltb-true _ _ l) (eqb-true _ _ z)) (λ _. bad 15 (omega arith))) (λ _. bad 15 (omega arith)))
+      (λ l. cond_has P (eqb (num (drop (p + length ed.mark) t)) 0) (λ z. end m (ltb-true _ _ l) (eqb-true _ _ z)) (λ _. bad BehindTheEnd)) (λ _. bad BehindTheEnd))
       (λ m. cond_has P (leb (p + 3) (length t))
-      (λ _. cond_has P (eqb (width ed k) 0) (λ _. bad 14 (omega arith))
+      (λ _. cond_has P (eqb (width ed k) 0) (λ _. bad NoStep)
       (λ n. cond_has P (leb (p + width ed k) (length t))
-      (λ l. cond_has P (legal ed (take (width ed k) (drop p t))) (λ g. step k m refl (eqb-false _ _ n) (leb-true _ _ l) g) (λ _. bad 14 (omega arith)))
-      (λ _. bad 13 (omega arith))))
-      (λ _. bad 13 (omega arith)))
+      (λ l. cond_has P (legal ed (take (width ed k) (drop p t))) (λ g. step k m refl (eqb-false _ _ n) (leb-true _ _ l) g) (λ _. bad NoStep))
+      (λ _. bad EndsTooSoon)))
+      (λ _. bad EndsTooSoon))
     where
       k : ℕ
       k = num (take 3 (drop p t))
 
   pub moves : Moves t p (read_at ed t p)
-  moves = read_has (Moves t p) (λ _ _. tt) (λ _ _ _. tt) (λ k _ _ n l _. (omega (arith, width-least ed k n), l))
+  moves = read_has (Moves t p) (λ _. tt) (λ _ _ _. tt) (λ k _ _ n l _. (omega (arith, width-least ed k n), l))
 
   -- one reading more
   pub read-from : (f n : ℕ) → n < f → read_from ed (f - n) t p ≡ onward (read_at ed t p) (read_from ed (f - (n + 1)) t)
@@ -92,9 +95,9 @@ module _ (ed : Edition) (t : List Bool) (p : ℕ) where
 
 -- where no step is: the end by the bits ahead, or else the refusal that reading comes to
 module _ (ed : Edition) (t : List Bool) (p x left : ℕ) (a : Ahead t p x) (q : p ≤ length t) (l : left ≡ length t - p) where
-  pub end-or : (number : ℕ) → (begins ed.mark (drop p t) ≡ false → read_at ed t p ≡ Refused number)
-      → end_or ed x left number ≡ read_at ed t p
-  end-or number h = go (begins ed.mark (drop p t)) refl
+  pub end-or : (refusal : Refusal) → (begins ed.mark (drop p t) ≡ false → read_at ed t p ≡ Refused refusal)
+      → end_or ed x left refusal ≡ read_at ed t p
+  end-or refusal h = go (begins ed.mark (drop p t)) refl
     where
       end : Reading
       end = end_at (take (left - length ed.mark) (drop (length ed.mark) (bits 64 x))) 0
@@ -102,12 +105,12 @@ module _ (ed : Edition) (t : List Bool) (p x left : ℕ) (a : Ahead t p x) (q : 
       same : begins ed.mark (take left (bits 64 x)) ≡ begins ed.mark (drop p t)
       same = mark-ahead ed.mark x left ed.mark_most t p a q l
 
-      go : (b : Bool) → begins ed.mark (drop p t) ≡ b → end_or ed x left number ≡ read_at ed t p
+      go : (b : Bool) → begins ed.mark (drop p t) ≡ b → end_or ed x left refusal ≡ read_at ed t p
       go true e =
           let m = (begins-is ed.mark (drop p t) e).0 in
-          ap (λ b. cond b end (Refused number)) (same ∙ e)
+          ap (λ b. cond b end (Refused refusal)) (same ∙ e)
           ∙ end-ahead t p x left (length ed.mark) a q l (omega (arith, m, length-drop p t)) ed.mark_most ∙ sym (read-mark ed t p e)
-      go false e = ap (λ b. cond b end (Refused number)) (same ∙ e) ∙ sym (h e)
+      go false e = ap (λ b. cond b end (Refused refusal)) (same ∙ e) ∙ sym (h e)
 
 -- no step of the code's editions begins with the end mark
 unmarked : (e : InCode) (f : List Bool) → width (edition_of e) (num (take 3 f)) ≢ 0 → legal (edition_of e) f ≡ true → begins (edition_of e).mark f ≡ false
@@ -132,61 +135,23 @@ step-unmarked e t p k kind n l h =
     ∙ unmarked e f (λ z. n (ap (width ed) (sym same) ∙ z)) h
 
 -- one step more, and what is left
-pub more-is : (x : ℕ) (o : Result) (l : List ℕ) → more x o ≡ given l → (ys : List ℕ) × (o ≡ given ys) × (l ≡ x ∷ ys)
-more-is x (given ys) l e = (ys, refl, cc)
-more-is x (refused k) l e = let z : ◌≡◌ {A = ℕ} 0 1 = cc in absurd (omega arith)
+pub more-is : (x : ℕ) (o : Outcome) (l : List ℕ) → more x o ≡ Ok l → (ys : List ℕ) × (o ≡ Ok ys) × (l ≡ x ∷ ys)
+more-is x (Ok ys) l e = (ys, refl, cc)
+more-is x (Err k) l e = cc
 
--- there are fewer steps than the fuel
-pub steps-fewer : (ed : Edition) (f : ℕ) (t : List Bool) (p : ℕ) (xs : List ℕ) → read_from ed f t p ≡ given xs → length xs < f
-unfolding read_from
-steps-fewer ed zero t p xs e = let q : ◌≡◌ {A = ℕ} 0 1 = cc in absurd (omega arith)
-steps-fewer ed (suc f) t p xs e = go (read_at ed t p) e (λ (q : ℕ) (ys : List ℕ) (g : read_from ed f t q ≡ given ys). steps-fewer ed f t q ys g)
-  where
-    go : (r : Reading) → onward r (read_from ed f t) ≡ given xs → ((q : ℕ) (ys : List ℕ) → read_from ed f t q ≡ given ys → length ys < f) → length xs < suc f
-    go (Step y q) e ih =
-        let m = more-is y (read_from ed f t q) xs e in
-        omega (arith, ih q m.0 m.1, ap length m.2)
-    go (Refused k) e ih = let q : ◌≡◌ {A = ℕ} 0 1 = cc in absurd (omega arith)
-    go End e ih = let q : [] ≡ xs = cc in omega (arith, ap length q)
-
--- a refusal has a number other than 0
-abbrev pub Numbered : Result → Type 0
-Numbered (given xs) = Unit {0}
-Numbered (refused k) = 0 < k
-
-abbrev NumberedAt : Reading → Type 0
-NumberedAt (Step x q) = Unit {0}
-NumberedAt (Refused k) = 0 < k
-NumberedAt End = Unit {0}
-
-pub numbered-from : (ed : Edition) (f : ℕ) (t : List Bool) (p : ℕ) → Numbered (read_from ed f t p)
-unfolding read_from
-numbered-from ed zero t p = omega arith
-numbered-from ed (suc f) t p =
-    go (read_at ed t p) (read_has ed t p NumberedAt (λ k h. h) (λ _ _ _. tt) (λ _ _ _ _ _ _. tt)) (λ q. numbered-from ed f t q)
-  where
-    before : (x : ℕ) (o : Result) → Numbered o → Numbered (more x o)
-    before x (given xs) h = tt
-    before x (refused k) h = h
-
-    go : (r : Reading) → NumberedAt r → ((q : ℕ) → Numbered (read_from ed f t q)) → Numbered (onward r (read_from ed f t))
-    go (Step x q) h ih = before x (read_from ed f t q) (ih q)
-    go (Refused k) h ih = h
-    go End h ih = tt
-
--- the number at a reading that is no step
-pub last-is : (r : Reading) (m n : ℕ) (rest : ℕ → Result) → ((x q : ℕ) → r ≢ Step x q) → number_at_end r m n ≡ number_with n m (onward r rest)
-last-is (Step x q) m n rest h = absurd (h x q refl)
-last-is (Refused k) m n rest h = refl
-last-is End m n rest h = ap (λ j. cond (leb j n) 0 16) (sym (add-zero m))
+-- how many steps there are at a reading that is no step
+pub last-is : (r : Reading) (m : ℕ) (rest : ℕ → Outcome) → ((x q : ℕ) → r ≢ Step x q) → ended_at r m ≡ counted m (onward r rest)
+last-is (Step x q) m rest h = absurd (h x q refl)
+last-is (Refused e) m rest h = refl
+last-is End m rest h = ap Ok (sym (add-zero m))
 
 -- one step more before the rest
-pub one_more : (n m x : ℕ) (o : Result) → number_with n m (more x o) ≡ number_with n (m + 1) o
-one_more n m x (given xs) = let e : m + suc (length xs) ≡ m + 1 + length xs = omega arith in ap (λ j. cond (leb j n) 0 16) e
-one_more n m x (refused k) = refl
+pub one_more : (m x : ℕ) (o : Outcome) → counted m (more x o) ≡ counted (m + 1) o
+one_more m x (Ok xs) = let e : m + suc (length xs) ≡ m + 1 + length xs = omega arith in ap Ok e
+one_more m x (Err e) = refl
 
 -- at a reading that is no step nothing is left
-pub none_left : (r : Reading) (rest : ℕ → Result) (l : List ℕ) → ((x q : ℕ) → r ≢ Step x q) → onward r rest ≡ given l → l ≡ []
+pub none_left : (r : Reading) (rest : ℕ → Outcome) (l : List ℕ) → ((x q : ℕ) → r ≢ Step x q) → onward r rest ≡ Ok l → l ≡ []
 none_left (Step x q) rest l h e = absurd (h x q refl)
-none_left (Refused k) rest l h e = let z : ◌≡◌ {A = ℕ} 0 1 = cc in absurd (omega arith)
+none_left (Refused k) rest l h e = cc
 none_left End rest l h e = cc

@@ -10,9 +10,11 @@ use lib.ListN.{length, take, drop, length-append, length-drop, replicate, length
 use lib.Seq.{length-take-le, take_at, take_all, drop_at, drop-append-le, drop-drop}
 use lib.Dec.{eqb, ltb}
 use borrow.Author.Tests.{eqb-false, lt-ltb, ltb-false}
+use Rattle.refusals.specs.declared.Refusal.TheVariants.{TapeTooLong, NoFirstBox, NoStep}
 use Rattle.tape.specs.Bits.{num, bits, bits_of, Bytes}
 use Rattle.tape.specs.Edition.{Edition, first_edition}
-use Rattle.tape.specs.Reading.{read_at, given, refused, more, onward, read_from, start, read_steps, boxes_in, first_boxes, read_in, read_tape}
+use Rattle.std.specs.Prelude.{Ok, Err}
+use Rattle.tape.specs.Reading.{read_at, more, onward, read_from, start, read_steps, boxes_in, first_boxes, read_in, read_tape}
 use Rattle.tape.specs.Writing.{wide, step_bits, all_steps, body, pad, ending, steps_part, size, tape_with, tape_of, write_tape}
 use Rattle.tape.specs.declared.reading.Reading.{Reading}
 use Rattle.tape.specs.declared.reading.Reading.TheVariants.{Step, Refused, End}
@@ -23,7 +25,7 @@ use Rattle.tape.proofs.MarkLaws.{begins-yes, end-good}
 use Rattle.tape.proofs.ReadingLaws.{read-mark, more-is}
 use Rattle.tape.proofs.StepLaws.{StepIn, EndIn, step_in, end-in, read_step, word_of, step-word, wide_word, length-step}
 use Rattle.tape.proofs.WritingLaws.{all_cons, pad-lt, size-least, length-tape, tape-bits, write-good}
-use Rattle.tape.proofs.TapeLaws.{GoodHead, head-good, head-zero, head-there, head-given, read-good}
+use Rattle.tape.proofs.TapeLaws.{GoodHead, head-there, head-given, read-good}
 
 module _ (ed : Edition) where
   -- the end mark, with zeros to the edge
@@ -42,7 +44,7 @@ module _ (ed : Edition) where
 
   -- reading from where the steps begin
   read-body : (pre : List Bool) (xs : List ℕ) (z f : ℕ) → z < 8 → all_steps ed xs ≡ true → length xs < f
-      → read_from ed f (pre ++ (body ed xs ++ (ed.mark ++ replicate z false))) (length pre) ≡ given xs
+      → read_from ed f (pre ++ (body ed xs ++ (ed.mark ++ replicate z false))) (length pre) ≡ Ok xs
   unfolding read_from body
   read-body pre xs z zero h a l = absurd (omega arith)
   read-body pre [] z (suc f) h a l = ap (λ r. onward r (read_from ed f (pre ++ (ed.mark ++ replicate z false)))) (read-end pre z h)
@@ -66,7 +68,7 @@ module _ (ed : Edition) where
       omega (arith, body-longer xs c.1, length-append (step_bits ed x) (body ed xs), length-step ed x, c.0)
 
   -- steps that are written behind a head read back as the same words
-  pub read-part : (pre : List Bool) (xs : List ℕ) → length pre ≡ start ed → all_steps ed xs ≡ true → read_steps ed (pre ++ steps_part ed xs) ≡ given xs
+  pub read-part : (pre : List Bool) (xs : List ℕ) → length pre ≡ start ed → all_steps ed xs ≡ true → read_steps ed (pre ++ steps_part ed xs) ≡ Ok xs
   unfolding read_steps steps_part ending
   read-part pre xs e a =
       let z = pad (start ed + length (body ed xs) + length ed.mark) in
@@ -111,20 +113,20 @@ module _ (ed : Edition) where
         is = s.here ∙ ap₂ (λ a b. a ++ b) (sym u) h.is ∙ sym (append_assoc (step_bits ed y) (body ed xs) (ed.mark ++ replicate h.z false));
       }
 
-  holds : (f : ℕ) (t : List Bool) (p : ℕ) (xs : List ℕ) → read_from ed f t p ≡ given xs → Holds t p xs
+  holds : (f : ℕ) (t : List Bool) (p : ℕ) (xs : List ℕ) → read_from ed f t p ≡ Ok xs → Holds t p xs
   unfolding read_from
-  holds zero t p xs e = let q : ◌≡◌ {A = ℕ} 0 1 = cc in absurd (omega arith)
-  holds (suc f) t p xs e = go (read_at ed t p) refl e (λ (q : ℕ) (ys : List ℕ) (g : read_from ed f t q ≡ given ys). holds f t q ys g)
+  holds zero t p xs e = cc
+  holds (suc f) t p xs e = go (read_at ed t p) refl e (λ (q : ℕ) (ys : List ℕ) (g : read_from ed f t q ≡ Ok ys). holds f t q ys g)
     where
-      go : (r : Reading) → read_at ed t p ≡ r → onward r (read_from ed f t) ≡ given xs → ((q : ℕ) (ys : List ℕ) → read_from ed f t q ≡ given ys → Holds t q ys) → Holds t p xs
+      go : (r : Reading) → read_at ed t p ≡ r → onward r (read_from ed f t) ≡ Ok xs → ((q : ℕ) (ys : List ℕ) → read_from ed f t q ≡ Ok ys → Holds t q ys) → Holds t p xs
       go (Step y q) r e ih =
           let m = more-is y (read_from ed f t q) xs e in
           subst (Holds t p) (sym m.2) (goes t p y q m.0 (step_in ed t p y q r) (ih q m.0 m.1))
-      go (Refused k) r e ih = let q : ◌≡◌ {A = ℕ} 0 1 = cc in absurd (omega arith)
+      go (Refused k) r e ih = cc
       go End r e ih = let q : [] ≡ xs = cc in subst (Holds t p) q (ends t p (end-in ed t p r))
 
   -- whole bytes that read as steps hold behind the head what these steps are written as
-  pub part-again : (t : List Bool) (m : ℕ) (xs : List ℕ) → length t ≡ 8 * m → start ed ≤ length t → read_steps ed t ≡ given xs → (all_steps ed xs ≡ true) × (drop (start ed) t ≡ steps_part ed xs)
+  pub part-again : (t : List Bool) (m : ℕ) (xs : List ℕ) → length t ≡ 8 * m → start ed ≤ length t → read_steps ed t ≡ Ok xs → (all_steps ed xs ≡ true) × (drop (start ed) t ≡ steps_part ed xs)
   unfolding read_steps steps_part ending pad
   part-again t m xs k l e =
       let h = holds (suc (length t)) t (start ed) xs e in
@@ -152,25 +154,25 @@ module _ (ed : Edition) (head : List Bool) (xs : List ℕ) (long : length head �
   part-tape = sym (drop-bits_of 2 (tape_with ed head xs)) ∙ ap (drop 16) bits-tape ∙ drop-append-le 16 head (steps_part ed xs) (omega (arith, ed.boxes_inside))
 
   -- what is written in any edition reads back
-  pub read_tape_lem : num (take 16 (drop ed.boxes_at head)) ≢ 0 → all_steps ed xs ≡ true → 2 + size ed xs ≤ 4096 → read_in ed (tape_with ed head xs) ≡ given xs
+  pub read_tape_lem : num (take 16 (drop ed.boxes_at head)) ≢ 0 → all_steps ed xs ≡ true → 2 + size ed xs ≤ 4096 → read_in ed (tape_with ed head xs) ≡ Ok xs
   read_tape_lem n a l =
       let t = tape_with ed head xs in
       let g : GoodHead ed t = record { least = rw length-tape (size-least ed xs); most = rw length-tape l; some = λ e. n (sym boxes-tape ∙ e) } in
-      read-good ed t (head-zero ed t g) ∙ ap (read_steps ed) part-tape
+      read-good ed t g ∙ ap (read_steps ed) part-tape
       ∙ read-part ed (drop 16 head) xs (length-drop 16 head ∙ ap (λ k. k - 16) long) a
 
 -- the words of an accepted tape of any edition are steps, and stand in it behind the head
-pub accepted-part : (ed : Edition) (s xs : List ℕ) → read_in ed s ≡ given xs → (all_steps ed xs ≡ true) × (drop (start ed) (bits_of (drop 2 s)) ≡ steps_part ed xs)
+pub accepted-part : (ed : Edition) (s xs : List ℕ) → read_in ed s ≡ Ok xs → (all_steps ed xs ≡ true) × (drop (start ed) (bits_of (drop 2 s)) ≡ steps_part ed xs)
 accepted-part ed s xs e =
     let h = head-given ed s xs e in
     let t = bits_of (drop 2 s) in
     let n : length t ≡ 8 * (length s - 2) = length-bits_of (drop 2 s) ∙ ap (λ k. 8 * k) (length-drop 2 s) in
-    part-again ed t (length s - 2) xs n (omega (arith, (head-there ed s (head-good ed s h)).2)) (sym (read-good ed s h) ∙ e)
+    part-again ed t (length s - 2) xs n (omega (arith, (head-there ed s h).2)) (sym (read-good ed s h) ∙ e)
 
 -- the whole of it is what its head and steps are written as
-pub tape-again : (ed : Edition) (s xs : List ℕ) → Bytes s → read_in ed s ≡ given xs → (2 + size ed xs ≡ length s) × (s ≡ tape_with ed (take ed.head (bits_of s)) xs)
+pub tape-again : (ed : Edition) (s xs : List ℕ) → Bytes s → read_in ed s ≡ Ok xs → (2 + size ed xs ≡ length s) × (s ≡ tape_with ed (take ed.head (bits_of s)) xs)
 tape-again ed s xs b e =
-    let there = head-there ed s (head-good ed s (head-given ed s xs e)) in
+    let there = head-there ed s (head-given ed s xs e) in
     let head = take ed.head (bits_of s) in
     let long : length head ≡ ed.head = length-take-le ed.head (bits_of s) (rw length-bits_of there.1) in
     let p = (accepted-part ed s xs e).1 in
@@ -186,15 +188,15 @@ first-boxes : (first : ℕ) → first < 2 ^ 16 → num (take 16 (bits 16 first))
 first-boxes first h = ap num (take_all 16 (bits 16 first) (rw length-bits (omega arith))) ∙ num-bits-small 16 first h
 
 -- what was written reads back
-pub read_written : (first : ℕ) (xs tape : List ℕ) → first < 2 ^ 16 → write_tape first xs ≡ given tape → (read_tape tape ≡ given xs) × (first_boxes tape ≡ first)
+pub read_written : (first : ℕ) (xs tape : List ℕ) → first < 2 ^ 16 → write_tape first xs ≡ Ok tape → (read_tape tape ≡ Ok xs) × (first_boxes tape ≡ first)
 unfolding write_tape
 read_written first xs tape h w = go (eqb first 0) refl (all_steps first_edition xs) refl (ltb 4096 (2 + size first_edition xs)) refl w
   where
     go : (x : Bool) → eqb first 0 ≡ x → (y : Bool) → all_steps first_edition xs ≡ y → (z : Bool) → ltb 4096 (2 + size first_edition xs) ≡ z
-        → cond x (refused 12) (cond y (cond z (refused 11) (given (tape_of first xs))) (refused 14)) ≡ given tape → (read_tape tape ≡ given xs) × (first_boxes tape ≡ first)
-    go true e y f z g w = let q : ◌≡◌ {A = ℕ} 0 1 = cc in absurd (omega arith)
-    go false e false f z g w = let q : ◌≡◌ {A = ℕ} 0 1 = cc in absurd (omega arith)
-    go false e true f true g w = let q : ◌≡◌ {A = ℕ} 0 1 = cc in absurd (omega arith)
+        → cond x (Err NoFirstBox) (cond y (cond z (Err TapeTooLong) (Ok (tape_of first xs))) (Err NoStep)) ≡ Ok tape → (read_tape tape ≡ Ok xs) × (first_boxes tape ≡ first)
+    go true e y f z g w = cc
+    go false e false f z g w = cc
+    go false e true f true g w = cc
     go false e true f false g w =
         let q : tape_of first xs ≡ tape = cc in
         let b = first-boxes first h in (
@@ -203,11 +205,11 @@ read_written first xs tape h w = go (eqb first 0) refl (all_steps first_edition 
         )
 
 -- an accepted tape writes again as the same bytes
-pub written_again : (tape xs : List ℕ) → Bytes tape → read_tape tape ≡ given xs → write_tape (first_boxes tape) xs ≡ given tape
+pub written_again : (tape xs : List ℕ) → Bytes tape → read_tape tape ≡ Ok xs → write_tape (first_boxes tape) xs ≡ Ok tape
 unfolding boxes_in
 written_again s xs b e =
-    let g = head-good first_edition s (head-given first_edition s xs e) in
+    let g = head-given first_edition s xs e in
     let again = tape-again first_edition s xs b e in
     let f : take 16 (bits_of s) ≡ bits 16 (first_boxes s) = sym (bits-part 16 (take 16 (bits_of s)) (length-take-le 16 (bits_of s) (rw length-bits_of (omega (arith, g.least))))) in
     write-good (first_boxes s) xs g.some (accepted-part first_edition s xs e).0 (omega (arith, again.0, g.most))
-    ∙ ap given (ap (λ h. tape_with first_edition h xs) (sym f) ∙ sym again.1)
+    ∙ ap Ok (ap (λ h. tape_with first_edition h xs) (sym f) ∙ sym again.1)

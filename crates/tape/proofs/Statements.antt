@@ -2,7 +2,7 @@
 use mathlib.Core.Path.{ap₂}
 use Rattle.sets.specs.Settles.{equation-settles}
 use Rattle.tape.specs.Statements.{Statements}
-use Rattle.tape.proofs.Settled.{read-settled, write-settled, check_reads}
+use Rattle.tape.proofs.Settled.{check-settled, read-settled, write-settled, check_reads}
 use Rattle.tape.proofs.StepWords.{word-by-fields, word-may-hold}
 use Rattle.tape.proofs.RoundTrip.{read_tape_lem, tape-again, read_written, written_again}
 use Rattle.tape.proofs.CallsRoundTrip.{written-reads, read-writes}
@@ -12,7 +12,7 @@ statements =
     record {
       settled =
           record {
-            tape_check = λ tape. equation-settles _;
+            tape_check = check-settled;
             read_tape =
                 λ tape row x y p q. let e = read-settled tape row x.0 y.0 x.1 y.1 p q in ap₂ (λ r after. (r, after)) e.0 e.1;
             write_tape =

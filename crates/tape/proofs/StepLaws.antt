@@ -9,12 +9,13 @@ use native.Mathlib.Omega.{arith}
 use lib.ListN.{length, take, drop, length-append, length-drop, replicate, take-append-drop}
 use lib.Seq.{length-take-le, take_at, drop_at, take-append-le, take-take, drop-drop}
 use lib.Dec.{eqb, ltb}
-use borrow.Author.Tests.{eqb-true, eq-eqb, ne_eqb}
+use borrow.Author.Tests.{eqb-true, eq-eqb, ne_eqb, lt-ltb, ltb-true, ltb-false}
+use Rattle.std.specs.Prelude.{Some, None, unwrap_or}
 use Rattle.tape.specs.Bits.{num, bits, word}
 use Rattle.tape.specs.Edition.{Edition}
 use Rattle.tape.specs.Layout.{width, legal}
 use Rattle.tape.specs.Reading.{begins, step_at, kind_at, end_at, read_at}
-use Rattle.tape.specs.Writing.{width_by, wide, step_bits}
+use Rattle.tape.specs.Writing.{width_by, wide, step_bits, step_width}
 use Rattle.tape.specs.declared.reading.Reading.{Reading}
 use Rattle.tape.specs.declared.reading.Reading.TheVariants.{Step, Refused, End}
 use Rattle.tape.proofs.BitLaws.{length-bits}
@@ -77,7 +78,7 @@ module _ (ed : Edition) where
 
     inside : Inside t p (read_at ed t p)
     inside =
-        read_has ed t p (Inside t p) (λ _ _. tt)
+        read_has ed t p (Inside t p) (λ _. tt)
         (λ b l z. let m = begins-is ed.mark (drop p t) b in record { has = m.0; marked = m.1; edge = l; zeros = z }) stands
 
     pub step_in : (y q : ℕ) → read_at ed t p ≡ Step y q → StepIn t p y q
@@ -209,3 +210,35 @@ module _ (ed : Edition) where
 
       pub wide_good : begins ed.mark (bits 64 x) ≡ false → legal ed f ≡ true → word f ≡ x → wide ed x ≡ width ed k
       wide_good b e h = at-good b e ∙ simp (eq-eqb _ _ h) (zero-add (width ed k))
+
+      -- where it is a step
+      pub width-good : wide ed x ≡ width ed k → Some (width ed k) ≡ step_width ed x
+      width-good e =
+          let h : 0 < width ed k = omega (arith, width-least ed k n) in
+          sym (ap (λ w. cond (ltb 0 w) (Some w) None) e ∙ simp (lt-ltb _ _ h))
+
+    -- where it is none
+    pub width-none : wide ed x ≡ 0 → None ≡ step_width ed x
+    width-none e = sym (simp e)
+
+    -- how many bits the step in a word takes
+    pub width-some : (w : ℕ) → Some w ≡ step_width ed x → (w ≡ wide ed x) × (wide ed x ≢ 0)
+    width-some w h = go (ltb 0 (wide ed x)) refl h
+      where
+        go : (b : Bool) → ltb 0 (wide ed x) ≡ b → Some w ≡ cond b (Some (wide ed x)) None → (w ≡ wide ed x) × (wide ed x ≢ 0)
+        go true e h = (cc, λ z. omega (arith, z, ltb-true 0 (wide ed x) e))
+        go false e h = cc
+
+    pub width-missing : None ≡ step_width ed x → wide ed x ≡ 0
+    width-missing h = go (ltb 0 (wide ed x)) refl h
+      where
+        go : (b : Bool) → ltb 0 (wide ed x) ≡ b → None ≡ cond b (Some (wide ed x)) None → wide ed x ≡ 0
+        go true e h = cc
+        go false e h = let z = ltb-false 0 (wide ed x) e in omega arith
+
+    pub width-or-none : unwrap_or (step_width ed x) 0 ≡ wide ed x
+    width-or-none = go (ltb 0 (wide ed x)) refl
+      where
+        go : (b : Bool) → ltb 0 (wide ed x) ≡ b → unwrap_or (cond b (Some (wide ed x)) None) 0 ≡ wide ed x
+        go true e = refl
+        go false e = let z = ltb-false 0 (wide ed x) e in omega arith

@@ -9,13 +9,14 @@ use native.Mathlib.Numerals.{add-one}
 use lib.ListN.{length, take, drop, get_or, set, length-take, length-drop, length-append}
 use lib.Seq.{take-add, drop-drop, drop-cons, set_at}
 use lib.Dec.{ltb, eqb}
-use borrow.Author.Tests.{le-ltb, eq-eqb, ne_eqb, ltb-false, eqb-true, eqb-false}
+use borrow.Author.Tests.{le-ltb, ne_eqb, ltb-false, eqb-false}
+use Rattle.refusals.specs.declared.Refusal.{Refusal}
+use Rattle.refusals.specs.declared.Refusal.TheVariants.{TapeTooLong, EndsTooSoon, NoFirstBox}
 use Rattle.tape.specs.Bits.{bits_of}
 use Rattle.tape.specs.Edition.{Edition}
-use Rattle.tape.specs.Reading.{given, refused, start, read_steps, boxes_in, least_bytes, head_of, read_in}
-use Rattle.tape.proofs.ByteLaws.{length-bits_of}
+use Rattle.std.specs.Prelude.{Result, Ok, Err}
+use Rattle.tape.specs.Reading.{start, read_steps, boxes_in, least_bytes, head_of, behind, read_in}
 use Rattle.tape.proofs.LayLaws.{part-from}
-use Rattle.tape.proofs.ReadingLaws.{Numbered, numbered-from, steps-fewer}
 
 module _ (ed : Edition) (s : List ℕ) where
   pub record GoodHead : Type 0 where
@@ -23,59 +24,44 @@ module _ (ed : Edition) (s : List ℕ) where
     pub most : length s ≤ 4096
     pub some : boxes_in ed s ≢ 0
 
-  pub head-good : head_of ed s ≡ 0 → GoodHead
+  pub head-good : (first : ℕ) → head_of ed s ≡ Ok first → GoodHead
   unfolding head_of
-  head-good h = go (ltb 4096 (length s)) refl (ltb (length s) (least_bytes ed)) refl (eqb (boxes_in ed s) 0) refl h
+  head-good first h = go (ltb 4096 (length s)) refl (ltb (length s) (least_bytes ed)) refl (eqb (boxes_in ed s) 0) refl h
     where
-      go : (a : Bool) → ltb 4096 (length s) ≡ a → (b : Bool) → ltb (length s) (least_bytes ed) ≡ b → (c : Bool) → eqb (boxes_in ed s) 0 ≡ c → ◌≡◌ {A = ℕ} (cond a 11 (cond b 13 (cond c 12 0))) 0 → GoodHead
-      go true e b f c g h = absurd (omega arith)
-      go false e true f c g h = absurd (omega arith)
-      go false e false f true g h = absurd (omega arith)
+      go : (a : Bool) → ltb 4096 (length s) ≡ a → (b : Bool) → ltb (length s) (least_bytes ed) ≡ b → (c : Bool) → eqb (boxes_in ed s) 0 ≡ c
+          → cond a (Err TapeTooLong) (cond b (Err EndsTooSoon) (cond c (Err NoFirstBox) (Ok (boxes_in ed s)))) ≡ Ok first → GoodHead
+      go true e b f c g h = cc
+      go false e true f c g h = cc
+      go false e false f true g h = cc
       go false e false f false g h = record { least = ltb-false _ _ f; most = ltb-false _ _ e; some = eqb-false _ _ g }
 
-  pub head-zero : GoodHead → head_of ed s ≡ 0
+  pub head-is : GoodHead → head_of ed s ≡ Ok (boxes_in ed s)
   unfolding head_of
-  head-zero g = simp (le-ltb _ _ g.least, le-ltb _ _ g.most, ne_eqb _ _ g.some)
+  head-is g = simp (le-ltb _ _ g.least, le-ltb _ _ g.most, ne_eqb _ _ g.some)
 
   -- the whole head is there
   pub head-there : GoodHead → (2 ≤ length s) × (ed.head ≤ 8 * length s) × (start ed ≤ 8 * (length s - 2))
   head-there g = (omega (arith, g.least, ed.boxes_inside), omega (arith, g.least), omega (arith, g.least, ed.boxes_inside))
 
-  pub read-bad : head_of ed s ≢ 0 → read_in ed s ≡ refused (head_of ed s)
+  pub read-bad : (e : Refusal) → head_of ed s ≡ Err e → read_in ed s ≡ Err e
   unfolding read_in
-  read-bad h = simp (ne_eqb _ _ h)
+  read-bad e h = ap (λ a. behind a (read_steps ed (bits_of (drop 2 s)))) h
 
-  pub read-good : head_of ed s ≡ 0 → read_in ed s ≡ read_steps ed (bits_of (drop 2 s))
+  pub read-good : GoodHead → read_in ed s ≡ read_steps ed (bits_of (drop 2 s))
   unfolding read_in
-  read-good h = simp (eq-eqb _ _ h)
+  read-good g = ap (λ a. behind a (read_steps ed (bits_of (drop 2 s)))) (head-is g)
 
   -- the part `&s[2..]` behind a good head reads as the tape
-  pub part-reads : head_of ed s ≡ 0 → read_steps ed (bits_of (take (length s - 2) (drop 2 s))) ≡ read_in ed s
-  part-reads h = ap (λ l. read_steps ed (bits_of l)) (part-from 2 s) ∙ sym (read-good h)
+  pub part-reads : GoodHead → read_steps ed (bits_of (take (length s - 2) (drop 2 s))) ≡ read_in ed s
+  part-reads g = ap (λ l. read_steps ed (bits_of l)) (part-from 2 s) ∙ sym (read-good g)
 
-  pub head-given : (xs : List ℕ) → read_in ed s ≡ given xs → head_of ed s ≡ 0
+  pub head-given : (xs : List ℕ) → read_in ed s ≡ Ok xs → GoodHead
   unfolding read_in
-  head-given xs h = go (eqb (head_of ed s) 0) refl h
+  head-given xs h = go (head_of ed s) refl h
     where
-      go : (b : Bool) → eqb (head_of ed s) 0 ≡ b → cond b (read_steps ed (bits_of (drop 2 s))) (refused (head_of ed s)) ≡ given xs → head_of ed s ≡ 0
-      go true e h = eqb-true _ _ e
-      go false e h = let z : ◌≡◌ {A = ℕ} 0 1 = cc in absurd (omega arith)
-
-  pub numbered-tape : Numbered (read_in ed s)
-  unfolding read_in read_steps
-  numbered-tape = go (eqb (head_of ed s) 0) refl
-    where
-      go : (b : Bool) → eqb (head_of ed s) 0 ≡ b → Numbered (cond b (read_steps ed (bits_of (drop 2 s))) (refused (head_of ed s)))
-      go true e = numbered-from ed (suc (length (bits_of (drop 2 s)))) (bits_of (drop 2 s)) (start ed)
-      go false e = let n : head_of ed s ≢ 0 = eqb-false _ _ e in omega (arith, n)
-
-  -- no tape has as many steps as 4,096 bytes have bits
-  pub steps-most : (xs : List ℕ) → read_in ed s ≡ given xs → length xs ≤ 32768
-  unfolding read_steps
-  steps-most xs e =
-      let h = head-given xs e in
-      let t = bits_of (drop 2 s) in
-      omega (arith, steps-fewer ed (suc (length t)) t (start ed) xs (sym (read-good h) ∙ e), length-bits_of (drop 2 s), length-drop 2 s, (head-good h).most)
+      go : (a : Result ℕ Refusal) → head_of ed s ≡ a → behind a (read_steps ed (bits_of (drop 2 s))) ≡ Ok xs → GoodHead
+      go (Ok first) e h = head-good first e
+      go (Err e) f h = cc
 
 -- the next of a list
 pub next-is : (n : ℕ) (xs : List ℕ) (x : ℕ) (ys : List ℕ) → drop n xs ≡ x ∷ ys → (n < length xs) × (drop (n + 1) xs ≡ ys) × (take (n + 1) xs ≡ take n xs ++ (x ∷ []))

@@ -12,11 +12,12 @@ use lib.Seq.{take-suc, split_at}
 use lib.Pow.{shl_exact, shl_lt}
 use lib.Dec.{ltb}
 use borrow.Author.Tests.{le-ltb, lt-ltb, ltb-true, eq-eqb, ne_eqb}
+use Rattle.refusals.specs.declared.Refusal.TheVariants.{TapeTooLong, NoFirstBox, NoStep}
 use Rattle.tape.specs.Bits.{num, bits}
 use Rattle.tape.specs.Edition.{Edition, first_edition}
-use Rattle.tape.specs.Reading.{start, least_bytes, given, refused}
+use Rattle.std.specs.Prelude.{Some, None, Ok, Err}
+use Rattle.tape.specs.Reading.{start, least_bytes}
 use Rattle.tape.specs.Writing.{wide, step_bits, all_steps, body, pad, ending, steps_part, bytes_for, size, tape_with, tape_of, write_tape, measured}
-use Rattle.tape.specs.declared.writing.Measured.TheVariants.{Bits, NoStep}
 use Rattle.tape.proofs.BitLaws.{num-lt, num-append, num-zeros, bits-part}
 use Rattle.tape.proofs.ByteLaws.{append-nil, length-pack}
 use Rattle.tape.proofs.LayoutLaws.{both}
@@ -99,28 +100,28 @@ module _ (ed : Edition) where
   pub end-shifted : (z : ℕ) → z < 8 → (num ed.mark * 2 ^ z % 2 ^ 64 ≡ num ed.mark * 2 ^ z) × (num ed.mark * 2 ^ z < 2 ^ (length ed.mark + z))
   end-shifted z h = (shl_exact {a = num ed.mark} (length ed.mark) z 64 (num-lt ed.mark) (omega (arith, ed.mark_most)), shl_lt {a = num ed.mark} (length ed.mark) z (num-lt ed.mark))
 
-  pub measured-good : (xs : List ℕ) (n : ℕ) → all_steps ed xs ≡ true → n ≡ min (length (body ed xs)) 40000 → Bits n ≡ measured ed xs
+  pub measured-good : (xs : List ℕ) (n : ℕ) → all_steps ed xs ≡ true → n ≡ min (length (body ed xs)) 40000 → Some n ≡ measured ed xs
   unfolding measured
-  measured-good xs n a e = ap Bits e ∙ sym (simp a)
+  measured-good xs n a e = ap Some e ∙ sym (simp a)
 
-  pub measured-bad : (xs : List ℕ) → all_steps ed xs ≡ false → NoStep ≡ measured ed xs
+  pub measured-bad : (xs : List ℕ) → all_steps ed xs ≡ false → None ≡ measured ed xs
   unfolding measured
   measured-bad xs a = sym (simp a)
 
-  pub measured-is : (xs : List ℕ) (n : ℕ) → Bits n ≡ measured ed xs → (all_steps ed xs ≡ true) × (n ≡ min (length (body ed xs)) 40000)
+  pub measured-is : (xs : List ℕ) (n : ℕ) → Some n ≡ measured ed xs → (all_steps ed xs ≡ true) × (n ≡ min (length (body ed xs)) 40000)
   unfolding measured
   measured-is xs n h = go (all_steps ed xs) refl h
     where
-      go : (t : Bool) → all_steps ed xs ≡ t → Bits n ≡ cond t (Bits (min (length (body ed xs)) 40000)) NoStep → (all_steps ed xs ≡ true) × (n ≡ min (length (body ed xs)) 40000)
+      go : (t : Bool) → all_steps ed xs ≡ t → Some n ≡ cond t (Some (min (length (body ed xs)) 40000)) None → (all_steps ed xs ≡ true) × (n ≡ min (length (body ed xs)) 40000)
       go true e h = (e, cc)
-      go false e h = let z : ◌≡◌ {A = ℕ} 0 1 = cc in absurd (omega arith)
+      go false e h = cc
 
-  pub measured-none : (xs : List ℕ) → NoStep ≡ measured ed xs → all_steps ed xs ≡ false
+  pub measured-none : (xs : List ℕ) → None ≡ measured ed xs → all_steps ed xs ≡ false
   unfolding measured
   measured-none xs h = go (all_steps ed xs) refl h
     where
-      go : (t : Bool) → all_steps ed xs ≡ t → NoStep ≡ cond t (Bits (min (length (body ed xs)) 40000)) NoStep → all_steps ed xs ≡ false
-      go true e h = let z : ◌≡◌ {A = ℕ} 0 1 = cc in absurd (omega arith)
+      go : (t : Bool) → all_steps ed xs ≡ t → None ≡ cond t (Some (min (length (body ed xs)) 40000)) None → all_steps ed xs ≡ false
+      go true e h = cc
       go false e h = e
 
 -- a tape with a head of its edition's length
@@ -137,19 +138,19 @@ module _ (first : ℕ) (xs : List ℕ) where
   abbrev ed : Edition
   ed = first_edition
 
-  pub write-12 : first ≡ 0 → write_tape first xs ≡ refused 12
+  pub write-boxless : first ≡ 0 → write_tape first xs ≡ Err NoFirstBox
   unfolding write_tape
-  write-12 e = simp (eq-eqb _ _ e)
+  write-boxless e = simp (eq-eqb _ _ e)
 
-  pub write-14 : first ≢ 0 → all_steps ed xs ≡ false → write_tape first xs ≡ refused 14
+  pub write-stepless : first ≢ 0 → all_steps ed xs ≡ false → write_tape first xs ≡ Err NoStep
   unfolding write_tape
-  write-14 e a = simp (ne_eqb _ _ e, a)
+  write-stepless e a = simp (ne_eqb _ _ e, a)
 
-  pub write-11 : first ≢ 0 → all_steps ed xs ≡ true → 4096 < 2 + size ed xs → write_tape first xs ≡ refused 11
+  pub write-long : first ≢ 0 → all_steps ed xs ≡ true → 4096 < 2 + size ed xs → write_tape first xs ≡ Err TapeTooLong
   unfolding write_tape
-  write-11 e a h = simp (ne_eqb _ _ e, a, lt-ltb _ _ h)
+  write-long e a h = simp (ne_eqb _ _ e, a, lt-ltb _ _ h)
 
-  pub write-good : first ≢ 0 → all_steps ed xs ≡ true → 2 + size ed xs ≤ 4096 → write_tape first xs ≡ given (tape_of first xs)
+  pub write-good : first ≢ 0 → all_steps ed xs ≡ true → 2 + size ed xs ≤ 4096 → write_tape first xs ≡ Ok (tape_of first xs)
   unfolding write_tape
   write-good e a h = simp (ne_eqb _ _ e, a, le-ltb _ _ h)
 

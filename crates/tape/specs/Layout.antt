@@ -1,9 +1,8 @@
 -- The layout of a step: "each a 3-bit kind and its fields" (01, "The tape"). One table, of an edition, for reading and for writing.
-use Rattle.std.specs.Prelude.{ℕ, suc, ◌+◌, ◌^◌, List, [], ◌∷◌, Bool, true, false, cond, take, drop, get_or, leb, eqb}
-use Rattle.tape.specs.Bits.{num, bits}
+use Rattle.std.specs.Prelude.{ℕ, suc, ◌+◌, ◌^◌, List, [], ◌∷◌, Bool, true, false, cond, Option, None, Some, take, drop, get_or, leb, eqb}
+use Rattle.tape.specs.Bits.{num, bits, field_at}
 use Rattle.tape.specs.Edition.{Field, field, step_width, Edition}
 use Rattle.tape.specs.declared.layout.Bound.{Bound}
-use Rattle.tape.specs.declared.layout.Bound.TheVariants as B
 use Rattle.tape.specs.declared.layout.Layout.{Layout}
 use Rattle.tape.specs.declared.Fields.{Fields}
 
@@ -56,17 +55,18 @@ abbrev pub full : Field → Bool
 full x = cond (eqb x.least 0) (eqb (suc x.most) (2 ^ x.width)) false
 
 -- the first of some fields, from a bit on, that may not hold whatever fits, as the code has it
-abbrev pub bound_of : ℕ → List Field → Bound
-bound_of from [] = B.None
-bound_of from (x ∷ xs) = cond (full x) (bound_of (from + x.width) xs) (B.Within from x.width x.least x.most)
+abbrev pub bound_of : ℕ → List Field → Option Bound
+bound_of from [] = None
+bound_of from (x ∷ xs) =
+    cond (full x) (bound_of (from + x.width) xs) (Some (record { from = from; width = x.width; least = x.least; most = x.most }))
 
 -- a layout as the code has it: the bits of the step, those of each field, and the bound
-abbrev pub layout_with : ℕ → ℕ → ℕ → ℕ → Bound → Layout
+abbrev pub layout_with : ℕ → ℕ → ℕ → ℕ → Option Bound → Layout
 layout_with a b c d bound = record { width = 3 + a + b + c + d; first = a; second = b; third = c; fourth = d; bound = bound }
 
--- the fields of a kind as such a layout
-abbrev pub layout_of : List Field → Layout
-layout_of xs = record {
+-- some fields as such a layout
+abbrev pub laid_out : List Field → Layout
+laid_out xs = record {
   width = step_width xs;
   first = (get_or xs 0 no_field).width;
   second = (get_or xs 1 no_field).width;
@@ -74,3 +74,17 @@ layout_of xs = record {
   fourth = (get_or xs 3 no_field).width;
   bound = bound_of 3 xs;
 }
+
+-- the layout of the fields of a kind; none where no step has the kind
+abbrev pub layout_of : List Field → Option Layout
+layout_of [] = None
+layout_of (x ∷ xs) = Some (laid_out (x ∷ xs))
+
+-- a word holds in the field of a bound a number that it may hold
+abbrev pub within : Bound → ℕ → Bool
+within b x = cond (leb b.least (field_at x b.from b.width)) (leb (field_at x b.from b.width) b.most) false
+
+-- a word keeps the bound of a layout, if there is one
+abbrev pub allowed : Option Bound → ℕ → Bool
+allowed None x = true
+allowed (Some b) x = within b x

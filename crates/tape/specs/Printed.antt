@@ -1,9 +1,9 @@
 -- The tape that 01 prints, seen by computing: its steps' words. The edges marked P stand in one table, in the crate edges.
-use Rattle.std.specs.Prelude.{ℕ, ◌≡◌, refl, List, [], ◌∷◌}
+use Rattle.std.specs.Prelude.{ℕ, ◌≡◌, refl, List, [], ◌∷◌, Ok}
 use Rattle.tape.specs.Bits.{bit, odd, bits, num, bits_of, word}
 use Rattle.tape.specs.Edition.{first_edition}
 use Rattle.tape.specs.Layout.{fields_allowed, legal, numbers, fields_of}
-use Rattle.tape.specs.Reading.{begins, step_at, end_at, kind_at, read_at, given, read_from, read_steps, boxes_in, head_of, read_in, read_tape}
+use Rattle.tape.specs.Reading.{begins, step_at, end_at, kind_at, read_at, read_from, read_steps, boxes_in, head_of, read_in, read_tape}
 
 -- `00 07 00 04 00 00 00 01 00 40 50 04 04 8e`
 abbrev pub printed : List ℕ
@@ -15,7 +15,7 @@ abbrev pub printed_words : List ℕ
 printed_words =
     0x4000000000000 ∷ 0x4000000000000000 ∷ 0x4040000000000000 ∷ 0x4000000000000000 ∷ 0x4040000000000000 ∷ 0x2000000000000000 ∷ []
 
-pub printed-reads : read_tape printed ≡ given printed_words
+pub printed-reads : read_tape printed ≡ Ok printed_words
 unfolding bit odd bits num bits_of word fields_allowed legal begins step_at end_at kind_at read_at read_from read_steps boxes_in head_of read_in
 printed-reads = refl
 

@@ -1,17 +1,16 @@
 -- Writing a tape: the bits of a step word, of all steps, and the bytes (01, "The tape" and "Numbers a caller gets back").
-use Rattle.std.specs.Prelude.{ℕ, zero, suc, ◌+◌, ◌-◌, ◌/◌, ◌%◌, min, List, [], ◌∷◌, ◌++◌, Bool, true, false, cond, length, take, drop, replicate, ltb, eqb}
+use Rattle.std.specs.Prelude.{ℕ, zero, suc, ◌+◌, ◌-◌, ◌/◌, ◌%◌, min, List, [], ◌∷◌, ◌++◌, Bool, true, false, cond, Option, None, Some, Ok, Err, length, take, drop, replicate, ltb, eqb}
+use Rattle.refusals.specs.declared.Refusal.TheVariants.{TapeTooLong, NoFirstBox, NoStep}
 use Rattle.tape.specs.Bits.{num, bits}
 use Rattle.tape.specs.Edition.{Edition, first_edition}
-use Rattle.tape.specs.Reading.{read_at, start, Result, given, refused}
+use Rattle.tape.specs.Reading.{read_at, start, Outcome}
 use Rattle.tape.specs.declared.reading.Reading.{Reading}
 use Rattle.tape.specs.declared.reading.Reading.TheVariants.{Step, Refused, End}
-use Rattle.tape.specs.declared.writing.Measured.{Measured}
-use Rattle.tape.specs.declared.writing.Measured.TheVariants.{Bits, NoStep}
 
 -- how many bits the step in a word takes; 0 for "a step word that is none": reading the word's own bits gives the word back
 abbrev pub width_by : Reading → ℕ → ℕ
 width_by (Step y q) x = cond (eqb y x) q 0
-width_by (Refused k) x = 0
+width_by (Refused e) x = 0
 width_by End x = 0
 
 unfoldable pub wide : Edition → ℕ → ℕ
@@ -24,6 +23,10 @@ step_bits ed x = take (wide ed x) (bits 64 x)
 -- a word is a step; else it is "a step word that is none"
 abbrev pub is_step : Edition → ℕ → Bool
 is_step ed x = ltb 0 (wide ed x)
+
+-- how many bits the step in a word takes, if it is one
+abbrev pub step_width : Edition → ℕ → Option ℕ
+step_width ed x = cond (is_step ed x) (Some (wide ed x)) None
 
 -- every word is a step
 unfoldable pub all_steps : Edition → List ℕ → Bool
@@ -68,11 +71,11 @@ abbrev pub tape_of : ℕ → List ℕ → List ℕ
 tape_of first xs = tape_with first_edition (bits 16 first) xs
 
 -- "Writing: 12; 14; 11"; 16 is the buffer's
-unfoldable pub write_tape : ℕ → List ℕ → Result
+unfoldable pub write_tape : ℕ → List ℕ → Outcome
 write_tape first xs =
-    cond (eqb first 0) (refused 12)
-    (cond (all_steps first_edition xs) (cond (ltb 4096 (2 + size first_edition xs)) (refused 11) (given (tape_of first xs))) (refused 14))
+    cond (eqb first 0) (Err NoFirstBox)
+    (cond (all_steps first_edition xs) (cond (ltb 4096 (2 + size first_edition xs)) (Err TapeTooLong) (Ok (tape_of first xs))) (Err NoStep))
 
--- the bits of some words as steps, counted up to 40,000, which is more than a tape has
-unfoldable pub measured : Edition → List ℕ → Measured
-measured ed xs = cond (all_steps ed xs) (Bits (min (length (body ed xs)) 40000)) NoStep
+-- the bits of some words as steps, counted up to 40,000, which is more than a tape has; none where a word is no step
+unfoldable pub measured : Edition → List ℕ → Option ℕ
+measured ed xs = cond (all_steps ed xs) (Some (min (length (body ed xs)) 40000)) None

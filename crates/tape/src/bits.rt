@@ -1,5 +1,5 @@
 // Fields cut from words and bytes, and set in them, most significant bit first.
-ghost use Rattle.std.specs.Prelude.{◌≡◌, ◌+◌, ◌*◌, ◌/◌, ◌%◌, ◌^◌, ◌≤◌, ◌<◌, min, length, get_or, take, set};
+ghost use Rattle.std.specs.Prelude.{◌≡◌, ◌+◌, ◌*◌, ◌/◌, ◌%◌, ◌^◌, ◌≤◌, ◌<◌, length, get_or, take, set};
 ghost use Rattle.tape.specs.Bits.{num, bits, bits_of, field_at, word, window, Ahead, overlaid};
 
 // The field of a word from its bit `from` on, the top bit being 0; 0 for a field that does not lie in the word.
@@ -39,38 +39,23 @@ pub(crate) fn bytes_at(s: &[u8], i: usize, n: usize) -> u64
     ensures { result ≡ num (window n s.now i) }
 {
     let mut x = 0;
-    let mut k = 0;
-    while k < n {
+    for k in 0..n {
         x = (x << 8) | byte_at(s, i + k);
-        k += 1;
     }
     x
 }
 
-// The eight bytes from i on, all there: with no test at each byte they are one load.
+// The eight bytes from i on, zeros behind the end: with no test at each byte they are one load.
 fn eight_at(s: &[u8], i: usize) -> u64
-    requires { i + 8 ≤ length s.now }
-    ensures { result ≡ num (window 8 s.now i) }
-{
-    let mut x = 0;
-    let mut k = 0;
-    while k < 8 {
-        x = (x << 8) | s[i + k] as u64;
-        k += 1;
-    }
-    x
-}
-
-// The eight bytes from i on, zeros behind the end.
-fn window_at(s: &[u8], i: usize) -> u64
     requires { i ≤ 8192 }
     ensures { result ≡ num (window 8 s.now i) }
 {
-    if s.len() < i + 8 {
-        bytes_at(s, i, 8)
-    } else {
-        eight_at(s, i)
+    if i <= s.len()
+        && let Some(eight) = s[i..].first_chunk()
+    {
+        return u64::from_be_bytes(*eight);
     }
+    bytes_at(s, i, 8)
 }
 
 // The bits from bit p on at the top of a word: as many as there are, up to 57.
@@ -78,7 +63,7 @@ pub(crate) fn ahead(s: &[u8], p: usize) -> u64
     requires { p ≤ 65536 }
     ensures { Ahead (bits_of s.now) p result }
 {
-    window_at(s, p / 8) << (p % 8)
+    eight_at(s, p / 8) << (p % 8)
 }
 
 // A byte into its place, if there is one.
@@ -118,13 +103,6 @@ pub(crate) fn put(buf: &mut [u8], p: usize, w: usize, v: u64)
     store(buf, p / 8, x);
 }
 
-// How many of some bits go in one field.
-fn chunk(left: usize) -> usize
-    ensures { result ≡ min left 16 }
-{
-    if left < 16 { left } else { 16 }
-}
-
 // The first w bits of a word into the bits from p on.
 pub(crate) fn put_word(buf: &mut [u8], p: usize, w: usize, x: u64)
     requires { (w ≤ 64) × (p + w ≤ 8 * length buf.old) × (p ≤ 65000) }
@@ -132,7 +110,7 @@ pub(crate) fn put_word(buf: &mut [u8], p: usize, w: usize, x: u64)
 {
     let mut i = 0;
     while i < w {
-        let k = chunk(w - i);
+        let k = (w - i).min(16);
         put(buf, p + i, k, field(x, i, k));
         i += k;
     }

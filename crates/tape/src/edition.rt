@@ -25,38 +25,39 @@ pub(crate) struct Head {
     pub(crate) width: usize,
 }
 
-// The end mark of an edition.
-pub(crate) fn mark_of(edition: Edition) -> Mark
-    ensures { result ≡ mark_in (edition_of edition) }
-{
-    match edition {
-        // Kind 7 alone.
-        Edition::First => Mark {
-            kind: 7,
-            rest: 0,
-            number: 7,
-            width: 3,
-        },
+impl Edition {
+    // The end mark.
+    pub(crate) fn mark(self) -> Mark
+        ensures { result ≡ mark_in (edition_of self) }
+    {
+        match self {
+            // Kind 7 alone.
+            Edition::First => Mark {
+                kind: 7,
+                rest: 0,
+                number: 7,
+                width: 3,
+            },
+        }
     }
-}
 
-// The head of an edition.
-pub(crate) fn head_of(edition: Edition) -> Head
-    ensures { result ≡ head_in (edition_of edition) }
-{
-    match edition {
-        // The set of first boxes alone.
-        Edition::First => Head {
-            boxes: 0,
-            width: 16,
-        },
+    // The head.
+    pub(crate) fn head(self) -> Head
+        ensures { result ≡ head_in (edition_of self) }
+    {
+        match self {
+            // The set of first boxes alone.
+            Edition::First => Head {
+                boxes: 0,
+                width: 16,
+            },
+        }
     }
-}
 
-// The bit of the part behind the first two bytes at which the steps begin.
-pub(crate) fn start_of(edition: Edition) -> usize
-    ensures { result ≡ start (edition_of edition) }
-{
-    let head = head_of(edition);
-    head.width - 16
+    // The bit of the part behind the first two bytes at which the steps begin.
+    pub(crate) fn start(self) -> usize
+        ensures { result ≡ start (edition_of self) }
+    {
+        self.head().width - 16
+    }
 }

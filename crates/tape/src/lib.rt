@@ -1,12 +1,12 @@
 // The tape of recorded steps (01, "The tape"): its check, its reader and its writer, and the fields of a step word.
-// Each call takes anything at all, and gives its result or one numbered refusal.
+// Each call takes anything at all, and gives its result or one refusal.
 #![tactic(auto)]
 
 ghost use Rattle.std.specs.Prelude.{◌≡◌};
 ghost use Rattle.tape.specs.Edition.{first_edition};
 ghost use Rattle.tape.specs.Layout.{fields_in};
 ghost use Rattle.tape.specs.Writing.{is_step};
-ghost use Rattle.tape.specs.Promises.{CheckPromise, ReadPromise, WritePromise};
+ghost use Rattle.tape.specs.Promises.{number_of, CheckPromise, ReadPromise, WritePromise};
 
 mod bits;
 mod edition;
@@ -15,30 +15,18 @@ mod reading;
 mod writing;
 
 use edition::Edition;
+use layout::Layout;
+use refusals::Refusal;
 
 // What a tape holds: its first boxes, and how many words of the row its steps take.
-#[derive(Clone, Copy)]
+#[derive(Clone, Copy, Debug, PartialEq, Eq)]
 pub struct Recorded {
     pub first: u16,
     pub steps: usize,
 }
 
-// A tape that was read, or the number of the refusal.
-#[derive(Clone, Copy)]
-pub enum Read {
-    Steps(Recorded),
-    Refused(u8),
-}
-
-// A tape that was written: how many bytes of the buffer it takes; or the number of the refusal.
-#[derive(Clone, Copy)]
-pub enum Written {
-    Bytes(usize),
-    Refused(u8),
-}
-
 // The kind of a step word and the numbers in its fields, in the order of the tape; 0 for a field that the kind has not.
-#[derive(Clone, Copy)]
+#[derive(Clone, Copy, Debug, PartialEq, Eq)]
 pub struct Fields {
     pub kind: u64,
     pub first: u64,
@@ -47,56 +35,50 @@ pub struct Fields {
     pub fourth: u64,
 }
 
-// The number that reading a tape gives with a row long enough.
-pub fn tape_check(tape: &[u8]) -> u8
-    ensures { CheckPromise tape.now result }
+// Whether reading a tape succeeds with a row long enough.
+pub fn tape_check(tape: &[u8]) -> Result<(), Refusal>
+    ensures { CheckPromise tape.now (number_of result) }
 {
-    // No tape has as many steps as 4,096 bytes have bits.
-    reading::check_tape(Edition::First, tape, 32768)
+    reading::check(Edition::First, tape)?;
+    Ok(())
 }
 
 // A tape's steps as words in a lent row: each has its tape bits at the top, and zeros below.
-pub fn read_tape(tape: &[u8], row: &mut [u64]) -> Read
+pub fn read_tape(tape: &[u8], row: &mut [u64]) -> Result<Recorded, Refusal>
     ensures { ReadPromise tape.now row.old result row.new }
 {
-    let number = reading::check_tape(Edition::First, tape, row.len());
-    if number != 0 {
-        return Read::Refused(number);
+    let recorded = reading::check(Edition::First, tape)?;
+    if row.len() < recorded.steps {
+        return Err(Refusal::RowTooShort);
     }
-    let steps = reading::fill_row(Edition::First, &tape[2..], row);
-    let recorded = Recorded {
-        first: reading::first_boxes(Edition::First, tape),
-        steps: steps,
-    };
-    Read::Steps(recorded)
+    reading::fill_row(Edition::First, &tape[2..], row);
+    Ok(recorded)
 }
 
-// First boxes and step words as a tape in a lent buffer.
-pub fn write_tape(first: u16, words: &[u64], buf: &mut [u8]) -> Written
+// First boxes and step words as a tape in a lent buffer; how many bytes of it the tape takes.
+pub fn write_tape(first: u16, words: &[u64], buf: &mut [u8]) -> Result<usize, Refusal>
     ensures { WritePromise first words.now buf.old result buf.new }
 {
     if first == 0 {
-        return Written::Refused(12);
+        return Err(Refusal::NoFirstBox);
     }
-    let writing::Measured::Bits(n) = writing::measure(Edition::First, words) else {
-        return Written::Refused(14);
-    };
+    let n = writing::measure(Edition::First, words).ok_or(Refusal::NoStep)?;
     let size = 2 + writing::bytes_for(Edition::First, n);
     if 4096 < size {
-        return Written::Refused(11);
+        return Err(Refusal::TapeTooLong);
     }
     if buf.len() < size {
-        return Written::Refused(16);
+        return Err(Refusal::RowTooShort);
     }
     writing::lay_tape(buf, first, words);
-    Written::Bytes(size)
+    Ok(size)
 }
 
 // Whether a word is a step: its tape bits at the top, its fields in range, and zeros below.
 pub fn is_step(word: u64) -> bool
     ensures { result ≡ is_step first_edition word }
 {
-    0 < layout::step_width(Edition::First, word)
+    layout::step_width(Edition::First, word).is_some()
 }
 
 // The fields of a step word, by the layout of its kind.
@@ -104,15 +86,23 @@ pub fn fields_of(word: u64) -> Fields
     ensures { result ≡ fields_in first_edition word }
 {
     let kind = bits::field(word, 0, 3);
-    let l = layout::layout_of(Edition::First, kind);
-    let second = 3 + l.first;
-    let third = second + l.second;
-    let fourth = third + l.third;
+    let Some(layout) = Layout::of(Edition::First, kind) else {
+        return Fields {
+            kind,
+            first: 0,
+            second: 0,
+            third: 0,
+            fourth: 0,
+        };
+    };
+    let second = 3 + layout.first;
+    let third = second + layout.second;
+    let fourth = third + layout.third;
     Fields {
-        kind: kind,
-        first: bits::field(word, 3, l.first),
-        second: bits::field(word, second, l.second),
-        third: bits::field(word, third, l.third),
-        fourth: bits::field(word, fourth, l.fourth),
+        kind,
+        first: bits::field(word, 3, layout.first),
+        second: bits::field(word, second, layout.second),
+        third: bits::field(word, third, layout.third),
+        fourth: bits::field(word, fourth, layout.fourth),
     }
 }

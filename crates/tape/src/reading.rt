@@ -1,20 +1,34 @@
-// The tape as it is read: first a pass that finds the number, and only then a pass that fills the row.
-ghost use Rattle.std.specs.Prelude.{◌≡◌, ◌*◌, ◌≤◌, ◌++◌, length, take, drop};
+// The tape as it is read: first a pass that finds what is wrong with it, and only then a pass that fills the row.
+ghost use Rattle.std.specs.Prelude.{◌≡◌, ◌*◌, ◌≤◌, ◌++◌, Ok, length, take, drop};
 ghost use Rattle.tape.specs.Bits.{num, bits, bits_of};
 ghost use Rattle.tape.specs.Edition.{edition_of};
-ghost use Rattle.tape.specs.Reading.{end_at, end_or, read_at, start, read_steps, read_in, head_of, boxes_in, given, words_of};
-ghost use Rattle.tape.specs.Promises.{number_with, number_at_end};
+ghost use Rattle.tape.specs.Reading.{end_at, end_or, read_at, start, read_steps, read_in, head_of, boxes_in, words_of};
+ghost use Rattle.tape.specs.Promises.{counted, ended_at, recorded_as};
 
+use crate::Recorded;
 use crate::bits::{ahead, bytes_at, field, top};
-use crate::edition::{Edition, head_of, mark_of, start_of};
-use crate::layout::{fields_allowed, layout_of};
+use crate::edition::Edition;
+use crate::layout::Layout;
+use refusals::Refusal;
 
 // Each reading ends as a step with the next bit position, or as a refusal, or as the end of the tape.
 #[derive(Clone, Copy)]
 pub(crate) enum Reading {
     Step(u64, usize),
-    Refused(u8),
+    Refused(Refusal),
     End,
+}
+
+impl Reading {
+    // How many steps there were where a reading is no step, or its refusal.
+    fn ended(self, steps: usize) -> Result<usize, Refusal>
+        ensures { result ≡ ended_at self steps }
+    {
+        match self {
+            Reading::Refused(refusal) => Err(refusal),
+            Reading::Step(_, _) | Reading::End => Ok(steps),
+        }
+    }
 }
 
 // Behind the end mark, which takes the first bits of a word: zero bits to the byte's edge, so many being left.
@@ -23,32 +37,31 @@ fn tail(x: u64, mark: usize, left: usize) -> Reading
     ensures { result ≡ end_at (take left (drop mark (bits 64 x))) 0 }
 {
     if 8 <= left {
-        return Reading::Refused(15);
+        return Reading::Refused(Refusal::BehindTheEnd);
     }
     if field(x, mark, left) == 0 {
         Reading::End
     } else {
-        Reading::Refused(15)
+        Reading::Refused(Refusal::BehindTheEnd)
     }
 }
 
-// What stands where no step of a kind is, a word having so many bits from there on: the end, by the end mark, or else a refusal with this number.
-fn end_or(edition: Edition, kind: u64, x: u64, left: usize, number: u8) -> Reading
+// What stands where no step of a kind is, a word having so many bits from there on: the end, by the end mark, or else this refusal.
+fn end_or(edition: Edition, kind: u64, x: u64, left: usize, refusal: Refusal) -> Reading
     requires { kind ≡ num (take 3 (bits 64 x)) }
-    ensures { result ≡ end_or (edition_of edition) x left number }
+    ensures { result ≡ end_or (edition_of edition) x left refusal }
 {
-    let mark = mark_of(edition);
-    let width = mark.width;
+    let mark = edition.mark();
     if kind != mark.kind {
-        return Reading::Refused(number);
+        return Reading::Refused(refusal);
     }
-    if left < width {
-        return Reading::Refused(number);
+    if left < mark.width {
+        return Reading::Refused(refusal);
     }
-    if field(x, 3, width - 3) != mark.rest {
-        return Reading::Refused(number);
+    if field(x, 3, mark.width - 3) != mark.rest {
+        return Reading::Refused(refusal);
     }
-    tail(x, width, left - width)
+    tail(x, mark.width, left - mark.width)
 }
 
 // What stands at bit p. A step is looked for first: none of any edition begins with the end mark.
@@ -59,46 +72,33 @@ fn read_step(edition: Edition, s: &[u8], p: usize) -> Reading
     let left = 8 * s.len() - p;
     let x = ahead(s, p);
     if left < 3 {
-        return Reading::Refused(13);
+        return Reading::Refused(Refusal::EndsTooSoon);
     }
     let kind = field(x, 0, 3);
-    let l = layout_of(edition, kind);
-    let w = l.width;
-    if w == 0 {
-        return end_or(edition, kind, x, left, 14);
+    let Some(layout) = Layout::of(edition, kind) else {
+        return end_or(edition, kind, x, left, Refusal::NoStep);
+    };
+    if left < layout.width {
+        return end_or(edition, kind, x, left, Refusal::EndsTooSoon);
     }
-    if left < w {
-        return end_or(edition, kind, x, left, 13);
+    let word = top(x, layout.width);
+    if layout.allows(word) {
+        return Reading::Step(word, p + layout.width);
     }
-    let word = top(x, w);
-    if fields_allowed(edition, kind, word) {
-        return Reading::Step(word, p + w);
-    }
-    end_or(edition, kind, x, left, 14)
+    end_or(edition, kind, x, left, Refusal::NoStep)
 }
 
-// The number that a reading that is no step gives after n steps, with room for so many.
-fn last_number(r: Reading, n: usize, room: usize) -> u8
-    ensures { result ≡ number_at_end r n room }
-{
-    match r {
-        Reading::Refused(k) => k,
-        Reading::Step(_, _) => 0,
-        Reading::End => { if room < n { 16 } else { 0 } }
-    }
-}
-
-// The number that the steps of the part from the third byte on give, with room for so many.
-fn check_steps(edition: Edition, s: &[u8], room: usize) -> u8
+// How many steps the part from the third byte on has.
+fn count_steps(edition: Edition, s: &[u8]) -> Result<usize, Refusal>
     requires { (length s.now ≤ 4096) × (start (edition_of edition) ≤ 8 * length s.now) }
-    ensures { result ≡ number_with room 0 (read_steps (edition_of edition) (bits_of s.now)) }
+    ensures { result ≡ counted 0 (read_steps (edition_of edition) (bits_of s.now)) }
 {
-    let mut p = start_of(edition);
+    let mut p = edition.start();
     let mut n = 0;
     loop {
-        let r = read_step(edition, s, p);
-        let Reading::Step(_, next) = r else {
-            return last_number(r, n, room);
+        let reading = read_step(edition, s, p);
+        let Reading::Step(_, next) = reading else {
+            return reading.ended(n);
         };
         p = next;
         n += 1;
@@ -106,57 +106,51 @@ fn check_steps(edition: Edition, s: &[u8], room: usize) -> u8
 }
 
 // The set of first boxes of a tape that has one.
-pub(crate) fn first_boxes(edition: Edition, tape: &[u8]) -> u16
+fn first_boxes(edition: Edition, tape: &[u8]) -> u16
     requires { (edition_of edition).head ≤ 8 * length tape.now }
     ensures { result ≡ boxes_in (edition_of edition) tape.now }
 {
-    let head = head_of(edition);
-    let from = head.boxes;
+    let from = edition.head().boxes;
     field(bytes_at(tape, from / 8, 8), from % 8, 16) as u16
 }
 
-// What is wrong with a tape before its steps, or 0.
-fn head(edition: Edition, tape: &[u8]) -> u8
+// The first boxes, or what is wrong with a tape before its steps.
+fn head(edition: Edition, tape: &[u8]) -> Result<u16, Refusal>
     ensures { result ≡ head_of (edition_of edition) tape.now }
 {
     if 4096 < tape.len() {
-        return 11;
+        return Err(Refusal::TapeTooLong);
     }
-    let least = head_of(edition).width / 8 + 1;
-    if tape.len() < least {
-        return 13;
+    if tape.len() < edition.head().width / 8 + 1 {
+        return Err(Refusal::EndsTooSoon);
     }
-    if first_boxes(edition, tape) == 0 {
-        12
-    } else {
-        0
+    let first = first_boxes(edition, tape);
+    if first == 0 {
+        return Err(Refusal::NoFirstBox);
     }
+    Ok(first)
 }
 
-// The number that reading a tape gives, with room for so many steps.
-pub(crate) fn check_tape(edition: Edition, tape: &[u8], room: usize) -> u8
-    ensures { result ≡ number_with room 0 (read_in (edition_of edition) tape.now) }
+// What a tape holds, or what is wrong with it.
+pub(crate) fn check(edition: Edition, tape: &[u8]) -> Result<Recorded, Refusal>
+    ensures { result ≡ recorded_as (boxes_in (edition_of edition) tape.now) (read_in (edition_of edition) tape.now) }
 {
-    let bad = head(edition, tape);
-    if bad != 0 {
-        return bad;
-    }
-    check_steps(edition, &tape[2..], room)
+    let first = head(edition, tape)?;
+    let steps = count_steps(edition, &tape[2..])?;
+    Ok(Recorded { first, steps })
 }
 
-// The step words of the part from the third byte on into a row that is long enough, and how many they are.
-pub(crate) fn fill_row(edition: Edition, s: &[u8], row: &mut [u64]) -> usize
-    requires { (length s.now ≤ 4096) × (start (edition_of edition) ≤ 8 * length s.now) × (read_steps (edition_of edition) (bits_of s.now) ≡ given (words_of (read_steps (edition_of edition) (bits_of s.now)))) × (length (words_of (read_steps (edition_of edition) (bits_of s.now))) ≤ length row.old) }
-    ensures { (result ≡ length (words_of (read_steps (edition_of edition) (bits_of s.now)))) × (row.new ≡ words_of (read_steps (edition_of edition) (bits_of s.now)) ++ drop result row.old) }
+// The step words of the part from the third byte on into a row that is long enough.
+pub(crate) fn fill_row(edition: Edition, s: &[u8], row: &mut [u64])
+    requires { (length s.now ≤ 4096) × (start (edition_of edition) ≤ 8 * length s.now) × (read_steps (edition_of edition) (bits_of s.now) ≡ Ok (words_of (read_steps (edition_of edition) (bits_of s.now)))) × (length (words_of (read_steps (edition_of edition) (bits_of s.now))) ≤ length row.old) }
+    ensures { row.new ≡ words_of (read_steps (edition_of edition) (bits_of s.now)) ++ drop (length (words_of (read_steps (edition_of edition) (bits_of s.now)))) row.old }
 {
-    let mut p = start_of(edition);
-    let mut n = 0;
-    loop {
+    let mut p = edition.start();
+    for place in row.iter_mut() {
         let Reading::Step(word, next) = read_step(edition, s, p) else {
-            return n;
+            return;
         };
-        row[n] = word;
+        *place = word;
         p = next;
-        n += 1;
     }
 }

@@ -1,43 +1,24 @@
 // The tape as it is written: first the words are measured, and only then laid into the buffer.
-ghost use Rattle.std.specs.Prelude.{◌≡◌, ◌+◌, ◌*◌, ◌≤◌, min, ◌++◌, length};
+ghost use Rattle.std.specs.Prelude.{◌≡◌, ◌+◌, ◌*◌, ◌≤◌, ◌++◌, length};
 ghost use Rattle.tape.specs.Bits.{bits, bits_of, overlaid};
 ghost use Rattle.tape.specs.Edition.{edition_of, first_edition};
 ghost use Rattle.tape.specs.Reading.{start};
 ghost use Rattle.tape.specs.Writing.{measured, body, ending, steps_part, bytes_for, size};
 
 use crate::bits::{put, put_word};
-use crate::edition::{Edition, mark_of, start_of};
+use crate::edition::Edition;
 use crate::layout::step_width;
 
-// The bits that some words take as steps, or that one of them is no step.
-#[derive(Clone, Copy)]
-pub(crate) enum Measured {
-    Bits(usize),
-    NoStep,
-}
-
-// A number, or 40,000 if it is larger: more bits than a tape has, and no sum of widths overflows.
-fn capped(n: usize) -> usize
-    ensures { result ≡ min n 40000 }
-{
-    if n < 40000 { n } else { 40000 }
-}
-
-// The bits that some words take as steps, counted up to 40,000.
-pub(crate) fn measure(edition: Edition, words: &[u64]) -> Measured
+// The bits that some words take as steps; none where one of them is no step.
+// Counted up to 40,000: more bits than a tape has, and no sum of widths overflows.
+pub(crate) fn measure(edition: Edition, words: &[u64]) -> Option<usize>
     ensures { result ≡ measured (edition_of edition) words.now }
 {
     let mut total = 0;
-    let mut i = 0;
-    while i < words.len() {
-        let w = step_width(edition, words[i]);
-        if w == 0 {
-            return Measured::NoStep;
-        }
-        total = capped(total + w);
-        i += 1;
+    for &word in words {
+        total = (total + step_width(edition, word)?).min(40000);
     }
-    Measured::Bits(total)
+    Some(total)
 }
 
 // The bytes from the third on of a tape whose steps take n bits.
@@ -45,8 +26,7 @@ pub(crate) fn bytes_for(edition: Edition, n: usize) -> usize
     requires { n ≤ 40000 }
     ensures { result ≡ bytes_for (edition_of edition) n }
 {
-    let mark = mark_of(edition);
-    (start_of(edition) + n + mark.width + 7) / 8
+    (edition.start() + n + edition.mark().width + 7) / 8
 }
 
 // The end mark at bit p, and zero bits to the byte's edge.
@@ -54,7 +34,7 @@ fn put_end(edition: Edition, buf: &mut [u8], p: usize)
     requires { (p ≤ 65000) × (p + length (ending (edition_of edition) p) ≤ 8 * length buf.old) }
     ensures { bits_of buf.new ≡ overlaid (bits_of buf.old) p (ending (edition_of edition) p) }
 {
-    let mark = mark_of(edition);
+    let mark = edition.mark();
     let zeros = (8 - (p + mark.width) % 8) % 8;
     put(buf, p, mark.width + zeros, mark.number << zeros);
 }
@@ -64,14 +44,11 @@ fn pack_steps(edition: Edition, buf: &mut [u8], words: &[u64])
     requires { (length (body (edition_of edition) words.now) ≤ 40000) × (start (edition_of edition) + length (steps_part (edition_of edition) words.now) ≤ 8 * length buf.old) }
     ensures { bits_of buf.new ≡ overlaid (bits_of buf.old) (start (edition_of edition)) (steps_part (edition_of edition) words.now) }
 {
-    let mut p = start_of(edition);
-    let mut i = 0;
-    while i < words.len() {
-        let x = words[i];
-        let w = step_width(edition, x);
-        put_word(buf, p, w, x);
-        p += w;
-        i += 1;
+    let mut p = edition.start();
+    for &word in words {
+        let width = step_width(edition, word).unwrap_or(0);
+        put_word(buf, p, width, word);
+        p += width;
     }
     put_end(edition, buf, p);
 }

@@ -1,5 +1,4 @@
 -- `bits::bytes_at` meets its contract: each byte is joined to the bits before it.
-use borrow.Author.Rules.{rules}
 use native.Mathlib.Omega.{arith}
 use mathlib.Core.Path.{refl}
 use Prim.Native.Nat.{◌+◌}
@@ -9,11 +8,11 @@ use Rattle.tape.proofs.bits.bytes_at.Goals as goal
 
 pub loop-k-init : goal.loop-k-init
 unfolding num window
-loop-k-init c = (search rules, refl)
+loop-k-init c = refl
 
 pub loop-k-preserved : goal.loop-k-preserved
 loop-k-preserved c =
     let l = c.loop-k in
     let a = c.args in
     let b = c.byte_at in
-    (omega arith, window-join l.k 1 a.s.now a.i l.x b.result (omega arith) l.invariant.1 (window-one a.s.now (a.i + l.k) b.result b.ensures.0 b.ensures.1))
+    window-join l.k 1 a.s.now a.i l.x b.result (omega arith) l.invariant (window-one a.s.now (a.i + l.k) b.result b.ensures.0 b.ensures.1)

@@ -1,11 +1,7 @@
 -- After k bytes the number is that of their bits, joined.
 use mathlib.Core.Path.{◌≡◌}
-use Prim.Native.Nat.{◌-◌, ◌≤◌}
 use Rattle.tape.specs.Bits.{num, window}
 use Rattle.tape.proofs.bits.bytes_at.Given as goal
 
 abbrev pub invariant-loop-k : goal.invariant-loop-k
-invariant-loop-k l = (l.k ≤ l.n) × (l.x ≡ num (window l.k l.s l.i))
-
-abbrev pub decreases-loop-k : goal.decreases-loop-k
-decreases-loop-k l = l.n - l.k
+invariant-loop-k l = l.x ≡ num (window l.k l.s l.i)

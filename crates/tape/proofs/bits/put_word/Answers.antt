@@ -26,13 +26,13 @@ loop-i-init c = (search rules, refl, sym (overlaid-nil (bits_of c.args.buf.now) 
 
 pub put-requires : goal.put-requires
 put-requires c =
-    let k = c.chunk-k in
+    let k = c.min-k in
     (omega arith, omega arith, rw c.field.ensures (field_lt c.args.x c.loop-i.i k.result (omega arith)), omega arith, omega arith)
 
 pub loop-i-preserved : goal.loop-i-preserved
 loop-i-preserved c =
     let a = c.args in
-    let k = c.chunk-k in (
+    let k = c.min-k in (
       omega arith,
       c.put.auto.buf ∙ c.loop-i.invariant.1,
       c.put.ensures ∙ further a.buf.now a.p a.w a.x c.loop-i.buf c.loop-i.i k.result c.field.result c.requires.0 (omega arith) c.requires.1 c.loop-i.invariant.2 (c.field.ensures ∙ field-inside a.x c.loop-i.i k.result (omega arith)),

@@ -1,15 +1,17 @@
 -- `reading::fill_row` meets its contract: each step read is the next of the part's words, and is laid behind those before it.
 use borrow.Author.Rules.{rules}
 use native.Mathlib.Omega.{arith}
-use mathlib.Core.Path.{◌≡◌, refl, sym, ap, subst, ◌∙◌}
+use mathlib.Core.Path.{◌≡◌, refl, sym, ap, ap₂, subst, ◌∙◌}
 use Prim.Native.Nat.{ℕ, suc, ◌+◌, ◌-◌, ◌<◌}
 use mathlib.Core.List.{List, [], ◌∷◌, ◌++◌}
 use native.Mathlib.Nat.{sub-zero}
 use lib.ListN.{length, take, drop, set, length-drop}
+use Rattle.std.proofs.lemmas.List.{set-get_or}
 use lib.Seq.{take_all, length-take-le}
 use Rattle.tape.specs.Bits.{bits_of}
 use Rattle.tape.specs.Edition.{Edition, edition_of}
-use Rattle.tape.specs.Reading.{read_at, Result, given, onward, read_from, read_steps}
+use Rattle.std.specs.Prelude.{Ok}
+use Rattle.tape.specs.Reading.{read_at, Outcome, onward, read_from, read_steps}
 use Rattle.tape.specs.declared.reading.Reading.TheVariants.{Step}
 use Rattle.tape.proofs.ByteLaws.{length-bits_of}
 use Rattle.tape.proofs.ReadingLaws.{Moves, moves, read-from, more-is, none_left}
@@ -20,42 +22,46 @@ use Rattle.tape.proofs.reading.fill_row.Goals as goal
 
 record Next (ed : Edition) (s : List ℕ) (n x q : ℕ) : Type 0 where
   ys : List ℕ
-  rests : read_from ed (suc (length (bits_of s)) - (n + 1)) (bits_of s) q ≡ given ys
+  rests : read_from ed (suc (length (bits_of s)) - (n + 1)) (bits_of s) q ≡ Ok ys
   next : (n < length (xs ed s)) × (drop (n + 1) (xs ed s) ≡ ys) × (take (n + 1) (xs ed s) ≡ take n (xs ed s) ++ (x ∷ []))
 
-abbrev rest : Edition → List ℕ → ℕ → ℕ → Result
+abbrev rest : Edition → List ℕ → ℕ → ℕ → Outcome
 rest ed s n = read_from ed (suc (length (bits_of s)) - (n + 1)) (bits_of s)
 
 unrolled : (ed : Edition) (s row₀ row : List ℕ) (p n : ℕ) → Filled ed s row₀ row p n → read_from ed (suc (length (bits_of s)) - n) (bits_of s) p ≡ onward (read_at ed (bits_of s) p) (rest ed s n)
 unrolled ed s row₀ row p n i = read-from ed (bits_of s) p (suc (length (bits_of s))) n (omega (arith, i.within, i.count, length-bits_of s))
 
 -- where the next reading is
-moved : (c : In-Step) → Moves (bits_of c.args.s.now) c.loop-word.p (Step c.in-Step.word c.in-Step.next)
-moved c = subst (λ z. Moves (bits_of c.args.s.now) c.loop-word.p z) (sym c.read_step.ensures ∙ c.in-Step.is) (moves (edition_of c.args.edition) (bits_of c.args.s.now) c.loop-word.p)
+moved : (c : In-Step) → Moves (bits_of c.args.s.now) c.loop-place.p (Step c.in-Step.word c.in-Step.next)
+moved c = subst (λ z. Moves (bits_of c.args.s.now) c.loop-place.p z) (sym c.read_step.ensures ∙ c.in-Step.is) (moves (edition_of c.args.edition) (bits_of c.args.s.now) c.loop-place.p)
 
 -- the words that are left, and the next of them
-nexts : (c : In-Step) → Next (edition_of c.args.edition) c.args.s.now c.loop-word.n c.in-Step.word c.in-Step.next
+nexts : (c : In-Step) → Next (edition_of c.args.edition) c.args.s.now c.loop-place.place-index c.in-Step.word c.in-Step.next
 nexts c =
-    let l = c.loop-word in
+    let l = c.loop-place in
     let ed = edition_of c.args.edition in
     let s = c.args.s.now in
     let x = c.in-Step.word in
     let q = c.in-Step.next in
-    let m = more-is x (rest ed s l.n q) (drop l.n (xs ed s))
-    (ap (λ z. onward z (rest ed s l.n)) (sym c.in-Step.is ∙ c.read_step.ensures)
-    ∙ sym (unrolled ed s c.args.row.now l.row l.p l.n l.invariant) ∙ l.invariant.left) in
-    record { ys = m.0; rests = m.1; next = next-is l.n (xs ed s) x m.0 m.2 }
+    let m = more-is x (rest ed s l.place-index q) (drop l.place-index (xs ed s))
+    (ap (λ z. onward z (rest ed s l.place-index)) (sym c.in-Step.is ∙ c.read_step.ensures)
+    ∙ sym (unrolled ed s c.args.row.now l.row l.p l.place-index l.invariant) ∙ l.invariant.left) in
+    record { ys = m.0; rests = m.1; next = next-is l.place-index (xs ed s) x m.0 m.2 }
 
-long : (c : In-Step) → length c.loop-word.row ≡ length c.args.row.now
+long : (c : In-Step) → length c.loop-place.row ≡ length c.args.row.now
 long c =
-    let l = c.loop-word in
+    let l = c.loop-place in
     let ed = edition_of c.args.edition in
-    ap length l.invariant.laid ∙ lay-length l.n (xs ed c.args.s.now) c.args.row.now l.invariant.some (omega (arith, c.requires.3))
+    ap length l.invariant.laid ∙ lay-length l.place-index (xs ed c.args.s.now) c.args.row.now l.invariant.some (omega (arith, c.requires.3))
 
-pub loop-word-init : goal.loop-word-init
+-- once each word lies in the row
+all-laid : (ed : Edition) (s row₀ row : List ℕ) (p n : ℕ) → Filled ed s row₀ row p n → n ≡ length (xs ed s) → row ≡ xs ed s ++ drop (length (xs ed s)) row₀
+all-laid ed s row₀ row p n i k = i.laid ∙ ap₂ (λ x m. x ++ drop m row₀) (take_all n (xs ed s) (omega arith)) k
+
+pub loop-place-init : goal.loop-place-init
 unfolding read_steps
-loop-word-init c =
-    let e = c.start_of-p.ensures in
+loop-place-init c =
+    let e = c.start-p.ensures in
     let t = bits_of c.args.s.now in
     record {
       within = omega (arith, e, c.requires.1);
@@ -67,25 +73,19 @@ loop-word-init c =
 
 pub returns-in_default : goal.returns-in_default
 returns-in_default c =
-    let l = c.loop-word in
+    let l = c.loop-place in
     let ed = edition_of c.args.edition in
     let s = c.args.s.now in
     let i = l.invariant in
-    let e : drop l.n (xs ed s) ≡ [] = none_left c.read_step.result (rest ed s l.n) (drop l.n (xs ed s)) c.in_default.not-Step
-    (ap (λ z. onward z (rest ed s l.n)) c.read_step.ensures ∙ sym (unrolled ed s c.args.row.now l.row l.p l.n i) ∙ i.left) in
-    let k : l.n ≡ length (xs ed s) = omega (arith, length-drop l.n (xs ed s), ap length e, i.some) in
-    (k, i.laid ∙ ap (λ x. x ++ drop l.n c.args.row.now) (take_all l.n (xs ed s) (omega arith)))
+    let e : drop l.place-index (xs ed s) ≡ [] = none_left c.read_step.result (rest ed s l.place-index) (drop l.place-index (xs ed s)) c.in_default.not-Step
+    (ap (λ z. onward z (rest ed s l.place-index)) c.read_step.ensures ∙ sym (unrolled ed s c.args.row.now l.row l.p l.place-index i) ∙ i.left) in
+    let k : l.place-index ≡ length (xs ed s) = omega (arith, length-drop l.place-index (xs ed s), ap length e, i.some) in
+    set-get_or l.row l.place-index 0 ∙ all-laid ed s c.args.row.now l.row l.p l.place-index i k
 
-pub bounds-row-n : goal.bounds-row-n
-bounds-row-n c = let at = goal.at.bounds-row-n c in omega (arith, (nexts at.In-Step).next.0, long at.In-Step)
-
-pub loop-word-smaller : goal.loop-word-smaller
-loop-word-smaller c = omega (arith, moved (goal.at.loop-word-smaller c).In-Step, length-bits_of c.args.s.now, c.loop-word.invariant.within)
-
-pub loop-word-preserved : goal.loop-word-preserved
-loop-word-preserved c =
-    let at = goal.at.loop-word-preserved c in
-    let l = c.loop-word in
+pub loop-place-preserved : goal.loop-place-preserved
+loop-place-preserved c =
+    let at = goal.at.loop-place-preserved c in
+    let l = c.loop-place in
     let ed = edition_of c.args.edition in
     let s = c.args.s.now in
     let x = c.in-Step.word in
@@ -97,8 +97,17 @@ loop-word-preserved c =
       within = omega arith;
       count = omega (arith, i.count);
       some = omega (arith, n.next.0);
-      left = n.rests ∙ ap given (sym n.next.1);
-      laid = ap (λ z. set z l.n x) i.laid
-          ∙ lay-more (take l.n (xs ed s)) c.args.row.now x l.n (length-take-le l.n (xs ed s) i.some) (omega (arith, n.next.0, c.requires.3))
-          ∙ ap (λ z. z ++ drop (l.n + 1) c.args.row.now) (sym n.next.2);
+      left = n.rests ∙ ap Ok (sym n.next.1);
+      laid = ap (λ z. set z l.place-index x) i.laid
+          ∙ lay-more (take l.place-index (xs ed s)) c.args.row.now x l.place-index (length-take-le l.place-index (xs ed s) i.some) (omega (arith, n.next.0, c.requires.3))
+          ∙ ap (λ z. z ++ drop (l.place-index + 1) c.args.row.now) (sym n.next.2);
     }
+
+-- where no place is left, no word is
+pub returns : goal.returns
+returns c =
+    let l = c.loop-place in
+    let ed = edition_of c.args.edition in
+    let s = c.args.s.now in
+    let i = l.invariant in
+    all-laid ed s c.args.row.now l.row l.p l.place-index i (omega (arith, i.some, c.requires.3))

@@ -5,7 +5,8 @@ use mathlib.Core.List.{List, ◌++◌}
 use lib.ListN.{length, take, drop}
 use Rattle.tape.specs.Bits.{bits_of}
 use Rattle.tape.specs.Edition.{Edition, edition_of}
-use Rattle.tape.specs.Reading.{given, words_of, read_from, read_steps}
+use Rattle.std.specs.Prelude.{Ok}
+use Rattle.tape.specs.Reading.{words_of, read_from, read_steps}
 use Rattle.tape.proofs.reading.fill_row.Given as goal
 
 -- the words of the part from the third byte on
@@ -16,11 +17,8 @@ pub record Filled (ed : Edition) (s row₀ row : List ℕ) (p n : ℕ) : Type 0 
   pub within : p ≤ 8 * length s
   pub count : n ≤ p
   pub some : n ≤ length (xs ed s)
-  pub left : read_from ed (suc (length (bits_of s)) - n) (bits_of s) p ≡ given (drop n (xs ed s))
+  pub left : read_from ed (suc (length (bits_of s)) - n) (bits_of s) p ≡ Ok (drop n (xs ed s))
   pub laid : row ≡ take n (xs ed s) ++ drop n row₀
 
-abbrev pub invariant-loop-word : goal.invariant-loop-word
-invariant-loop-word l = Filled (edition_of l.edition) l.s l.initial.row l.row l.p l.n
-
-abbrev pub decreases-loop-word : goal.decreases-loop-word
-decreases-loop-word l = 8 * length l.s - l.p
+abbrev pub invariant-loop-place : goal.invariant-loop-place
+invariant-loop-place l = Filled (edition_of l.edition) l.s l.initial.row l.row l.p l.place-index

@@ -9,4 +9,4 @@ pub returns : goal.returns
 unfolding bytes_for
 returns c =
     let n = c.args.n in
-    ap₂ (λ s w. (s + n + w + 7) / 8) c.start_of.ensures (ap (λ (m : Mark). m.width) c.mark_of-mark.ensures)
+    ap₂ (λ s w. (s + n + w + 7) / 8) c.start.ensures (ap (λ (m : Mark). m.width) c.mark.ensures)

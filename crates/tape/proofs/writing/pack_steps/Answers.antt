@@ -7,16 +7,17 @@ use mathlib.Core.List.{List}
 use native.Mathlib.Nat.{add-zero}
 use lib.ListN.{length, take, get_or}
 use lib.Seq.{take_all}
+use Rattle.std.specs.Prelude.{unwrap_or}
 use Rattle.tape.specs.Bits.{bits, bits_of, overlaid}
 use Rattle.tape.specs.Edition.{Edition, edition_of}
 use Rattle.tape.specs.Reading.{start}
 use Rattle.tape.specs.Writing.{wide, step_bits, body, ending, steps_part}
 use Rattle.tape.proofs.ByteLaws.{length-bits_of}
 use Rattle.tape.proofs.LayLaws.{overlaid-nil, overlaid-overlaid}
-use Rattle.tape.proofs.StepLaws.{wide-most}
+use Rattle.tape.proofs.StepLaws.{wide-most, width-or-none}
 use Rattle.tape.proofs.WritingLaws.{body-next, length-next, length_part, length-ending, length-steps_part}
 use Rattle.tape.proofs.writing.pack_steps.Invariants.{Packed}
-use Rattle.tape.proofs.writing.pack_steps.Goals.{After-step_width-w}
+use Rattle.tape.proofs.writing.pack_steps.Goals.{After-unwrap_or-width}
 use Rattle.tape.proofs.writing.pack_steps.Goals as goal
 
 module _ (ed : Edition) (xs s b : List ℕ) (p i : ℕ) (few : length (body ed xs) ≤ 40000) (room : start ed + length (steps_part ed xs) ≤ 8 * length s) (k : Packed ed xs s b p i) where
@@ -61,46 +62,53 @@ module _ (ed : Edition) (xs s b : List ℕ) (p i : ℕ) (few : length (body ed x
         ∙ ap (λ q. overlaid (overlaid (bits_of s) (start ed) (body ed xs)) q (ending ed q)) all_in
         ∙ overlaid-overlaid (bits_of s) (start ed) (body ed xs) (ending ed (start ed + length (body ed xs))) begun
 
--- the step before which the loop stands
-one : (c : After-step_width-w) → (c.step_width-w.result ≤ 64) × (c.loop-i.p + c.step_width-w.result ≤ 8 * length c.loop-i.buf) × (c.loop-i.p + c.step_width-w.result ≤ 40064)
-one c =
-    let l = c.loop-i in
-    let a = c.args in
-    fits (edition_of a.edition) a.words.now a.buf.now l.buf l.p l.i c.requires.0 c.requires.1 l.invariant (search rules) c.step_width-w.result c.step_width-w.ensures
+-- how many bits the next step takes
+width : (c : After-unwrap_or-width) → c.unwrap_or-width.result ≡ wide (edition_of c.args.edition) (get_or c.args.words.now c.loop-word.word-index 0)
+width c =
+    let ed = edition_of c.args.edition in
+    let x = get_or c.args.words.now c.loop-word.word-index 0 in
+    c.unwrap_or-width.ensures ∙ ap (λ w. unwrap_or w 0) c.step_width.ensures ∙ width-or-none ed x
 
-pub loop-i-init : goal.loop-i-init
+-- the step before which the loop stands
+one : (c : After-unwrap_or-width) → (c.unwrap_or-width.result ≤ 64) × (c.loop-word.p + c.unwrap_or-width.result ≤ 8 * length c.loop-word.buf) × (c.loop-word.p + c.unwrap_or-width.result ≤ 40064)
+one c =
+    let l = c.loop-word in
+    let a = c.args in
+    fits (edition_of a.edition) a.words.now a.buf.now l.buf l.p l.word-index c.requires.0 c.requires.1 l.invariant (search rules) c.unwrap_or-width.result (width c)
+
+pub loop-word-init : goal.loop-word-init
 unfolding body
-loop-i-init c =
+loop-word-init c =
     let ed = edition_of c.args.edition in
     record {
       some = search rules;
-      next = c.start_of-p.ensures ∙ sym (add-zero (start ed));
+      next = c.start-p.ensures ∙ sym (add-zero (start ed));
       same = refl;
       laid = sym (overlaid-nil (bits_of c.args.buf.now) (start ed));
     }
 
 pub put_word-requires : goal.put_word-requires
-put_word-requires c = let f = one (goal.at.put_word-requires c).After-step_width-w in (f.0, f.1, omega (arith, f.2))
+put_word-requires c = let f = one (goal.at.put_word-requires c).After-unwrap_or-width in (f.0, f.1, omega (arith, f.2))
 
 pub overflow_add-p : goal.overflow_add-p
-overflow_add-p c = omega (arith, (one (goal.at.overflow_add-p c).After-step_width-w).2)
+overflow_add-p c = omega (arith, (one (goal.at.overflow_add-p c).After-unwrap_or-width).2)
 
-pub loop-i-preserved : goal.loop-i-preserved
-loop-i-preserved c =
-    let l = c.loop-i in
+pub loop-word-preserved : goal.loop-word-preserved
+loop-word-preserved c =
+    let l = c.loop-word in
     let a = c.args in
     let q = c.put_word in
-    further (edition_of a.edition) a.words.now a.buf.now l.buf l.p l.i c.requires.0 c.requires.1 l.invariant (search rules) c.step_width-w.result c.step_width-w.ensures q.new.buf q.auto.buf q.ensures
+    further (edition_of a.edition) a.words.now a.buf.now l.buf l.p l.word-index c.requires.0 c.requires.1 l.invariant (search rules) c.unwrap_or-width.result (width (goal.at.loop-word-preserved c).After-unwrap_or-width) q.new.buf q.auto.buf q.ensures
 
 pub put_end-requires : goal.put_end-requires
 put_end-requires c =
-    let l = c.loop-i in
+    let l = c.loop-word in
     let a = c.args in
-    end_fits (edition_of a.edition) a.words.now a.buf.now l.buf l.p l.i c.requires.0 c.requires.1 l.invariant (search rules)
+    end_fits (edition_of a.edition) a.words.now a.buf.now l.buf l.p l.word-index c.requires.0 c.requires.1 l.invariant (search rules)
 
 pub returns : goal.returns
 returns c =
-    let l = c.loop-i in
+    let l = c.loop-word in
     let a = c.args in
     c.put_end.ensures
-    ∙ ended (edition_of a.edition) a.words.now a.buf.now l.buf l.p l.i c.requires.0 c.requires.1 l.invariant (search rules)
+    ∙ ended (edition_of a.edition) a.words.now a.buf.now l.buf l.p l.word-index c.requires.0 c.requires.1 l.invariant (search rules)

@@ -1,5 +1,5 @@
 -- After i words their steps lie in the buffer, from where the steps begin, and the next bit is p.
-use Prim.Native.Nat.{ℕ, ◌+◌, ◌-◌, ◌≤◌}
+use Prim.Native.Nat.{ℕ, ◌+◌, ◌≤◌}
 use mathlib.Core.Path.{◌≡◌}
 use mathlib.Core.List.{List}
 use lib.ListN.{length, take}
@@ -16,8 +16,5 @@ pub record Packed (ed : Edition) (xs s b : List ℕ) (p i : ℕ) : Type 0 where
   pub same : length b ≡ length s
   pub laid : bits_of b ≡ overlaid (bits_of s) (start ed) (body ed (take i xs))
 
-abbrev pub invariant-loop-i : goal.invariant-loop-i
-invariant-loop-i l = Packed (edition_of l.edition) l.words l.initial.buf l.buf l.p l.i
-
-abbrev pub decreases-loop-i : goal.decreases-loop-i
-decreases-loop-i l = length l.words - l.i
+abbrev pub invariant-loop-word : goal.invariant-loop-word
+invariant-loop-word l = Packed (edition_of l.edition) l.words l.initial.buf l.buf l.p l.word-index

@@ -8,7 +8,7 @@ use Rattle.tape.specs.Edition.{Edition, edition_of, mark_in}
 use Rattle.tape.specs.Writing.{pad, ending}
 use Rattle.tape.specs.declared.edition.Mark.{Mark}
 use Rattle.tape.proofs.WritingLaws.{length-ending, end-field, end-shifted}
-use Rattle.tape.proofs.writing.put_end.Goals.{After-mark_of-mark}
+use Rattle.tape.proofs.writing.put_end.Goals.{After-mark-mark}
 use Rattle.tape.proofs.writing.put_end.Goals as goal
 
 -- the end mark as the code puts it, in one field with the zeros behind it
@@ -29,20 +29,20 @@ as-field ed p m e =
       long = sym (length-ending ed p);
     }
 
-at-end : (c : After-mark_of-mark) → Field (edition_of c.args.edition) c.args.p c.mark_of-mark.result
-at-end c = as-field (edition_of c.args.edition) c.args.p c.mark_of-mark.result c.mark_of-mark.ensures
+at-end : (c : After-mark-mark) → Field (edition_of c.args.edition) c.args.p c.mark-mark.result
+at-end c = as-field (edition_of c.args.edition) c.args.p c.mark-mark.result c.mark-mark.ensures
 
-least : (c : After-mark_of-mark) → c.mark_of-mark.result.width ≡ length (edition_of c.args.edition).mark
-least c = ap (λ (m : Mark). m.width) c.mark_of-mark.ensures
+least : (c : After-mark-mark) → c.mark-mark.result.width ≡ length (edition_of c.args.edition).mark
+least c = ap (λ (m : Mark). m.width) c.mark-mark.ensures
 
 pub put-requires : goal.put-requires
 put-requires c =
     let at = goal.at.put-requires c in
     let ed = edition_of c.args.edition in
-    let f = at-end at.After-mark_of-mark in
-    (omega (arith, least at.After-mark_of-mark, ed.mark_least), omega (arith, least at.After-mark_of-mark, ed.mark_most), f.small, omega (arith, f.long, c.requires.1), omega (arith, c.requires.0))
+    let f = at-end at.After-mark-mark in
+    (omega (arith, least at.After-mark-mark, ed.mark_least), omega (arith, least at.After-mark-mark, ed.mark_most), f.small, omega (arith, f.long, c.requires.1), omega (arith, c.requires.0))
 
 pub returns : goal.returns
 returns c =
     let a = c.args in
-    c.put.ensures ∙ ap (overlaid (bits_of a.buf.now) a.p) (at-end (goal.at.returns c).After-mark_of-mark).is
+    c.put.ensures ∙ ap (overlaid (bits_of a.buf.now) a.p) (at-end (goal.at.returns c).After-mark-mark).is

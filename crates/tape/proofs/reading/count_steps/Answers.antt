@@ -1,4 +1,4 @@
--- `reading::check_steps` meets its contract: the number that the whole part gives is the one that the rest of it gives after n steps.
+-- `reading::count_steps` meets its contract: the whole part has the steps that the rest of it has after n steps.
 use borrow.Author.Rules.{rules}
 use native.Mathlib.Omega.{arith}
 use mathlib.Core.Path.{sym, ap, subst, ◌∙◌}
@@ -8,12 +8,12 @@ use lib.ListN.{length}
 use Rattle.tape.specs.Bits.{bits_of}
 use Rattle.tape.specs.Edition.{edition_of}
 use Rattle.tape.specs.Reading.{onward, read_from, read_steps}
-use Rattle.tape.specs.Promises.{number_with}
+use Rattle.tape.specs.Promises.{counted}
 use Rattle.tape.specs.declared.reading.Reading.TheVariants.{Step}
 use Rattle.tape.proofs.ByteLaws.{length-bits_of}
 use Rattle.tape.proofs.ReadingLaws.{Moves, moves, read-from, last-is, one_more}
-use Rattle.tape.proofs.reading.check_steps.Goals.{In-Step}
-use Rattle.tape.proofs.reading.check_steps.Goals as goal
+use Rattle.tape.proofs.reading.count_steps.Goals.{In-Step}
+use Rattle.tape.proofs.reading.count_steps.Goals as goal
 
 -- where the next reading is
 moved : (c : In-Step) → Moves (bits_of c.args.s.now) c.loop-next.p
@@ -21,14 +21,14 @@ moved : (c : In-Step) → Moves (bits_of c.args.s.now) c.loop-next.p
 moved c =
     let t = bits_of c.args.s.now in
     let l = c.loop-next in
-    subst (λ z. Moves t l.p z) (sym c.read_step-r.ensures ∙ c.in-Step.is) (moves (edition_of c.args.edition) t l.p)
+    subst (λ z. Moves t l.p z) (sym c.read_step-reading.ensures ∙ c.in-Step.is) (moves (edition_of c.args.edition) t l.p)
 
 pub loop-next-init : goal.loop-next-init
 unfolding read_steps
 loop-next-init c =
-    let e = c.start_of-p.ensures in
+    let e = c.start-p.ensures in
     let t = bits_of c.args.s.now in
-    (omega (arith, e, c.requires.1), search rules, rw sub-zero (ap (λ q. number_with c.args.room 0 (read_from (edition_of c.args.edition) (suc (length t)) t q)) (sym e)))
+    (omega (arith, e, c.requires.1), search rules, rw sub-zero (ap (λ q. counted 0 (read_from (edition_of c.args.edition) (suc (length t)) t q)) (sym e)))
 
 pub returns-in_default : goal.returns-in_default
 returns-in_default c =
@@ -36,12 +36,12 @@ returns-in_default c =
     let ed = edition_of a.edition in
     let t = bits_of a.s.now in
     let l = c.loop-next in
-    let r = c.read_step-r in
+    let r = c.read_step-reading in
     let rest = read_from ed (suc (length t) - (l.n + 1)) t in
-    c.last_number.ensures
-    ∙ last-is r.result l.n a.room rest c.in_default.not-Step
-    ∙ ap (λ z. number_with a.room l.n (onward z rest)) r.ensures
-    ∙ ap (number_with a.room l.n) (sym (read-from ed t l.p (suc (length t)) l.n (omega (arith, length-bits_of a.s.now))))
+    c.ended.ensures
+    ∙ last-is r.result l.n rest c.in_default.not-Step
+    ∙ ap (λ z. counted l.n (onward z rest)) r.ensures
+    ∙ ap (counted l.n) (sym (read-from ed t l.p (suc (length t)) l.n (omega (arith, length-bits_of a.s.now))))
     ∙ sym l.invariant.2
 
 pub loop-next-smaller : goal.loop-next-smaller
@@ -62,7 +62,7 @@ loop-next-preserved c =
       omega arith,
       omega arith,
       l.invariant.2
-          ∙ ap (number_with a.room l.n) (read-from ed t l.p (suc (length t)) l.n (omega arith)
-          ∙ ap (λ z. onward z rest) (sym c.read_step-r.ensures ∙ c.in-Step.is))
-          ∙ one_more a.room l.n c.in-Step.field-0 (rest c.in-Step.next),
+          ∙ ap (counted l.n) (read-from ed t l.p (suc (length t)) l.n (omega arith)
+          ∙ ap (λ z. onward z rest) (sym c.read_step-reading.ensures ∙ c.in-Step.is))
+          ∙ one_more l.n c.in-Step.field-0 (rest c.in-Step.next),
     )
