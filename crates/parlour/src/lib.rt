@@ -1,17 +1,18 @@
 // One step of a run at a time, and the question whether a box may be unplugged. Every call takes any state and any numbers.
 #![tactic(auto)]
 
-ghost use Rattle.std.specs.Prelude.{true, ◌≡◌, ◌<◌, ◌≤◌, ◌^◌};
+ghost use Rattle.std.specs.Prelude.{position, ◌≡◌, ◌<◌, ◌≤◌, ◌^◌};
 ghost use Rattle.sets.specs.Choice.{pick};
 ghost use Rattle.sets.specs.Sets.{has, union};
 ghost use Rattle.devices.specs.declared.Step.{Step};
+ghost use Rattle.devices.specs.Effects.{messages_of};
 ghost use Rattle.rules.specs.Table.{row};
-ghost use Rattle.state.specs.Slots.{empty_slot};
-ghost use Rattle.state.specs.State.{proper_desk, proper};
+ghost use Rattle.state.specs.Slots.{empty_slot, is_free, many, laid};
+ghost use Rattle.state.specs.State.{proper};
 ghost use Rattle.parlour.specs.Steps.{within, slot_of, device_of, taken_if, StepPromise, UnplugPromise};
 
-use books::{Config, Listed};
-use devices::{Contents, Here, Message, Step, Tablet};
+use books::Config;
+use devices::{Here, Message, Sending, Step};
 use rules::Named;
 use state::{Run, Slot, Stepped};
 
@@ -24,24 +25,20 @@ pub enum Unplug {
 }
 
 // A place below a bound, 0 where there is no such place.
-fn place_within(bound: usize, n: u8) -> usize
+fn place_within(bound: usize, n: usize) -> usize
     requires { 0 < bound }
     ensures { (result ≡ within bound n) × (result < bound) }
 {
-    let i = n as usize;
-    if i < bound { i } else { 0 }
+    if n < bound { n } else { 0 }
 }
 
 // The place of the slot that a step names.
 fn slot_of(step: Step) -> usize
     ensures { (result ≡ slot_of step) × (result < 128) }
 {
-    let a = rules::about_step(step);
-    let names = a.names;
-    match names {
-        Named::Tablet(_) => 0,
-        Named::Slot(slot) => place_within(128, slot),
-        Named::Device(_) => 0,
+    match rules::about_step(step).names {
+        Named::Slot(slot) => place_within(128, slot as usize),
+        Named::Tablet(_) | Named::Device(_) => 0,
     }
 }
 
@@ -49,28 +46,24 @@ fn slot_of(step: Step) -> usize
 fn device_of(step: Step, m: Message) -> usize
     ensures { (result ≡ device_of step m) × (result < 24) }
 {
-    let a = rules::about_step(step);
-    let names = a.names;
-    match names {
-        Named::Tablet(tablet) => place_within(24, tablet),
-        Named::Slot(_) => place_within(24, devices::addressee_of(m)),
-        Named::Device(device) => place_within(24, device),
+    match rules::about_step(step).names {
+        Named::Tablet(device) | Named::Device(device) => place_within(24, device as usize),
+        Named::Slot(_) => place_within(24, devices::addressee_of(m) as usize),
     }
 }
 
-// The place of a device among the tablets, 0 where it is none.
-fn tablet_of(d: usize) -> usize
-    ensures { (result ≡ within 8 d) × (result < 8) }
+// How many slots are free, or 0 where their number does not matter to the step.
+fn counted(step: Step, slots: &[Slot]) -> usize
+    ensures { result ≡ pick (row step).counts (many is_free slots.now) 0 }
 {
-    if d < 8 { d } else { 0 }
-}
-
-// How many slots are looked through for free ones: none where their number does not matter to the step.
-fn counted(step: Step) -> usize
-    ensures { result ≡ pick (row step).counts 128 0 }
-{
-    let a = rules::about_step(step);
-    if a.counts { 128 } else { 0 }
+    if rules::about_step(step).counts {
+        slots
+            .iter()
+            .filter(|slot| devices::is_empty(slot.message))
+            .count()
+    } else {
+        0
+    }
 }
 
 // A slot after a step: freed, or as it was.
@@ -94,104 +87,76 @@ fn stopped_after(stopped: u32, stops: bool, d: usize) -> u32
     if stops { stopped | (1 << d) } else { stopped }
 }
 
-// Whether everything but the slots is proper, or is known to be.
-fn desk_proper(known: bool, listed: Listed, devices: [Contents; 24], tablets: [Tablet; 8]) -> bool
-    ensures { result ≡ pick known true (proper_desk listed devices tablets) }
+// Whether a state is one.
+fn is_proper(run: &Run) -> bool
+    ensures { result ≡ proper run.now }
 {
-    if known {
-        return true;
-    }
-    state::proper_desk(listed, devices, tablets)
+    let n = run.listed.count;
+    state::proper_desk(run.listed, run.devices, run.tablets)
+        & run
+            .slots
+            .iter()
+            .all(|slot| state::proper_message(n, slot.message))
 }
 
-// How many slots are looked through for an improper message: none of a state that is known to be proper.
-fn scanned(known: bool) -> usize
-    ensures { result ≡ pick known 0 128 }
+// The place of the first free slot.
+fn first_free(slots: &[Slot]) -> Option<usize>
+    ensures { result ≡ position is_free slots.now }
 {
-    if known { 0 } else { 128 }
+    slots
+        .iter()
+        .position(|slot| devices::is_empty(slot.message))
 }
 
-// One step. The rule sees the acting device's parts, its effect is stored, and its messages are laid in one pass.
-// A refusal gives the parts as they came, so that storing them changes nothing. A state known to be proper is not scanned again.
-fn take(mut run: Run, known: bool, step: Step) -> Stepped
-    ensures { result ≡ taken_if (pick known true (proper run)) step run }
+// Messages to a set of devices, in order, laid into the lowest free slots in one pass.
+fn lay(slots: &mut [Slot; 128], sending: Sending)
+    ensures { slots.new ≡ laid (messages_of sending) slots.old }
 {
-    let listed = run.listed;
-    let n = listed.count;
-    let mut ok = desk_proper(known, listed, run.devices, run.tablets);
-    let all = scanned(known);
-    let mut z: usize = 0;
-    while z < all {
-        let s = run.slots[z];
-        let m = s.message;
-        ok = ok & state::proper_message(n, m);
-        z += 1;
-    }
-    let at = slot_of(step);
-    let slot = run.slots[at];
-    let message = slot.message;
-    let d = device_of(step, message);
-    let t = tablet_of(d);
-    let contents = run.devices[d];
-    let tablet = run.tablets[t];
-    let end = counted(step);
-    let mut free: usize = 0;
-    let mut i: usize = 0;
-    while i < end {
-        let s = run.slots[i];
-        let m = s.message;
-        if devices::is_empty(m) {
-            free += 1;
+    let mut next = 0;
+    for device in 0..24 {
+        if (sending.to >> device) % 2 == 1 {
+            let Some(place) = first_free(&slots[next..]) else {
+                return;
+            };
+            slots[next + place] = Slot {
+                message: devices::address(sending.message, device),
+            };
+            next += place + 1;
         }
-        i += 1;
     }
-    let stopped = (run.stopped >> d) % 2 == 1;
+}
+
+// One step, told whether the state is one. The rule sees the acting device's parts, its effect is stored, and its messages are laid.
+// A refusal gives the parts as they came, so that storing them changes nothing.
+fn take(mut run: Run, proper: bool, step: Step) -> Stepped
+    ensures { result ≡ taken_if proper step run }
+{
+    let at = slot_of(step);
+    let message = run.slots[at].message;
+    let d = device_of(step, message);
+    let t = place_within(8, d);
     let e = rules::effect_of(
-        ok,
+        proper,
         step,
         message,
         Here {
-            contents: contents,
-            tablet: tablet,
-            listed: listed,
-            free: free,
-            stopped: stopped,
+            contents: run.devices[d],
+            tablet: run.tablets[t],
+            listed: run.listed,
+            free: counted(step, &run.slots),
+            stopped: (run.stopped >> d) % 2 == 1,
         },
     );
-    let slot_after = freed(slot, e.frees);
-    let contents_after = e.contents;
-    let tablet_after = e.tablet;
-    let listed_after = e.listed;
-    let outcome = e.outcome;
-    run.slots[at] = slot_after;
-    run.devices[d] = contents_after;
-    run.tablets[t] = tablet_after;
-    run.listed = listed_after;
+    run.slots[at] = freed(run.slots[at], e.frees);
+    run.devices[d] = e.contents;
+    run.tablets[t] = e.tablet;
+    run.listed = e.listed;
     run.stopped = stopped_after(run.stopped, e.stops, d);
-    run.kept = devices::kept_after(outcome, run.kept);
-    let sending = e.sending;
-    let sent = sending.message;
-    let to = sending.to;
-    let mut p: usize = 0;
-    let mut q: usize = 0;
-    while (p < 128) & (q < 24) {
-        if (to >> q) % 2 == 1 {
-            let s = run.slots[p];
-            let m = s.message;
-            if devices::is_empty(m) {
-                let copy = devices::address(sent, q as u8);
-                let filled = Slot { message: copy };
-                run.slots[p] = filled;
-                q += 1;
-            }
-            p += 1;
-        } else {
-            q += 1;
-        }
-    }
+    run.kept = devices::kept_after(e.outcome, run.kept);
+    lay(&mut run.slots, e.sending);
     Stepped {
-        outcome: outcome,
-        run: run,
+        outcome: e.outcome,
+        run,
     }
 }
 
@@ -199,22 +164,20 @@ fn take(mut run: Run, known: bool, step: Step) -> Stepped
 pub fn step(run: Run, step: Step) -> Stepped
     ensures { StepPromise step run result }
 {
-    take(run, false, step)
+    let proper = is_proper(&run);
+    take(run, proper, step)
 }
 
 pub fn ask(run: Run, tablet: u8, notes: u16, added: u16, removed: u16) -> Stepped
     ensures { StepPromise (Step.Ask tablet notes (record { added = added; removed = removed })) run result }
 {
-    take(
+    let pair = Config { added, removed };
+    step(
         run,
-        false,
         Step::Ask {
-            tablet: tablet,
-            notes: notes,
-            pair: Config {
-                added: added,
-                removed: removed,
-            },
+            tablet,
+            notes,
+            pair,
         },
     )
 }
@@ -222,40 +185,31 @@ pub fn ask(run: Run, tablet: u8, notes: u16, added: u16, removed: u16) -> Steppe
 pub fn advance(run: Run, tablet: u8) -> Stepped
     ensures { StepPromise (Step.Advance tablet) run result }
 {
-    take(run, false, Step::Advance(tablet))
+    step(run, Step::Advance(tablet))
 }
 
 pub fn deliver(run: Run, slot: u8) -> Stepped
     ensures { StepPromise (Step.Deliver slot) run result }
 {
-    take(run, false, Step::Deliver(slot))
+    step(run, Step::Deliver(slot))
 }
 
 pub fn lose(run: Run, slot: u8) -> Stepped
     ensures { StepPromise (Step.Lose slot) run result }
 {
-    take(run, false, Step::Lose(slot))
+    step(run, Step::Lose(slot))
 }
 
 pub fn repeat(run: Run, slot: u8) -> Stepped
     ensures { StepPromise (Step.Repeat slot) run result }
 {
-    take(run, false, Step::Repeat(slot))
+    step(run, Step::Repeat(slot))
 }
 
 pub fn stop(run: Run, device: u8) -> Stepped
     ensures { StepPromise (Step.Stop device) run result }
 {
-    take(run, false, Step::Stop(device))
-}
-
-// Whether a state is one: a step that no state takes is refused by 1 only where the state is none, else by 2.
-fn is_proper(run: Run) -> bool
-    ensures { result ≡ proper run }
-{
-    let s = take(run, false, Step::Stop(24));
-    let outcome = s.outcome;
-    devices::number_of(outcome) == 2
+    step(run, Step::Stop(device))
 }
 
 // Whether a box may be unplugged: exactly where it is in the removed set of the kept join.
@@ -263,7 +217,7 @@ pub fn may_unplug(run: Run, number: u8) -> Unplug
     ensures { UnplugPromise run number result }
 {
     let kept = run.kept;
-    if is_proper(run) {
+    if is_proper(&run) {
         if 15 < number {
             return Unplug::Unanswered(2);
         }

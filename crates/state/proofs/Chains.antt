@@ -1,7 +1,7 @@
--- What the chains of iterators give, in the words of specs/: std's `list_all` is `all` (`all_listed`), over the first places of a list `each` (`list_each`),
--- and over the numbers below a bound `each` too (`list_each-range`).
+-- What chains of iterators give, in the words of specs/: `.all(..)` over a list `all` (`all_ran`), over its first places `each` (`list_each`), over the numbers
+-- below a bound `each` too (`list_each-range`); `.filter(..).count()` gives `many` (`many_counted`).
 use Prim.Native.Nat.{ℕ, zero, suc, ◌≤◌, ◌<◌}
-use mathlib.Core.Bool.{Bool, true, false, ◌&&◌}
+use mathlib.Core.Bool.{Bool, true, false, cond, ◌&&◌}
 use mathlib.Core.List.{List, [], ◌∷◌}
 use mathlib.Core.Path.{◌≡◌, refl, sym, ap, ap₂, ◌∙◌}
 use native.Mathlib.Nat.{zero-add}
@@ -9,7 +9,7 @@ use native.Mathlib.Numerals.{add-one}
 use native.Mathlib.Omega.{arith}
 use lib.ListN.{get_or, take, length}
 use lib.Seq.{take_all}
-use Rattle.std.specs.List.{list_all, range_with_len}
+use Rattle.std.specs.List.{list_all, range_with_len, filter}
 use Rattle.std.proofs.lemmas.List.Folds.{list_all_more}
 use Rattle.std.proofs.lemmas.List.FromFn.{length-range_with_len, get_or-range_with_len}
 use Rattle.std.specs.Prelude.{Option}
@@ -18,11 +18,11 @@ use Rattle.std.specs.Fn.{Called}
 use denote.Param.Members.{Mut}
 use Rattle.std.proofs.lemmas.Iterator.{YieldsList}
 use Rattle.std.proofs.lemmas.Iterator.Search.{all_from_yields_List}
-use Rattle.sets.specs.Choice.{both}
+use Rattle.sets.specs.Choice.{pick, both}
 use Rattle.sets.specs.Bounded.{each}
-use Rattle.state.specs.Slots.{all}
+use Rattle.state.specs.Slots.{all, many}
 
-and_both : (a b : Bool) → (a && b) ≡ both a b
+pub and_both : (a b : Bool) → (a && b) ≡ both a b
 and_both true b = refl
 and_both false b = refl
 
@@ -51,3 +51,14 @@ list_each-range p n =
     let l = length-range_with_len 0 n in
     ap (list_all p) (sym (take_all n (range_with_len 0 n) (omega (arith, l))))
     ∙ list_each p 0 (range_with_len 0 n) p n (omega (arith, l)) (λ k h. ap p (get_or-range_with_len 0 n k 0 h ∙ zero-add k))
+
+-- ---- Of how many
+
+pub many_counted : {A : Type 0} (p : A → Bool) (xs : List A) → length (filter p xs) ≡ many p xs
+unfolding many
+many_counted p [] = refl
+many_counted p (x ∷ xs) = go (p x) (many_counted p xs)
+  where
+    go : (t : Bool) → length (filter p xs) ≡ many p xs → length (cond t (x ∷ filter p xs) (filter p xs)) ≡ pick t (suc (many p xs)) (many p xs)
+    go true e = ap suc e
+    go false e = e

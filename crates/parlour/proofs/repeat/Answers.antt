@@ -1,5 +1,0 @@
-use Rattle.parlour.proofs.Taking.{step-promise}
-use Rattle.parlour.proofs.repeat.Goals as goal
-
-pub returns : goal.returns
-returns c = step-promise _ _ _ c.take.ensures
