@@ -1,4 +1,4 @@
--- What the stores and passes of one step make of the run is what the rule's effect does to it.
+-- What the stores of one step make of the run is what the rule's effect does to it.
 use Prim.Native.Nat.{ℕ, ◌^◌}
 use mathlib.Core.Bool.{Bool, true, false}
 use mathlib.Core.List.{List}
@@ -53,8 +53,14 @@ stored_is : (at d : ℕ) (e : Effect) (r : Run) {t stopped : ℕ} {slot : Slot} 
 unfolding applied
 stored_is at d e r c s u k w =
     rw (w, k, u, s, c)
-    (ap (λ (slots : List Slot). record { outcome = e.outcome; run = stored d (within 8 d) (laid (messages_of e.sending) slots) (pick e.stops (union r.stopped (2 ^ d)) r.stopped) (kept_after e.outcome r.kept) e r })
-    (freed-store e.frees at r.slots))
+    (ap (λ (slots : List Slot). with_table (laid (messages_of e.sending) slots)) (freed-store e.frees at r.slots))
+  where
+    with_table : List Slot → Stepped
+    with_table slots =
+        record {
+          outcome = e.outcome;
+          run = stored d (within 8 d) slots (pick e.stops (union r.stopped (2 ^ d)) r.stopped) (kept_after e.outcome r.kept) e r;
+        }
 
 -- the parts that the code hands to the rule
 abbrev pub seen : ℕ → ℕ → ℕ → Run → Here
@@ -87,7 +93,8 @@ take-is ok step r free {at} {d} {e = e} a b c f g s u k w =
     ∙ ap (λ (x : ℕ). taken_at ok step x (message_at x r) r) a
 
 -- the number of free slots, where it matters
-pub counted-free : (step : Step) (r : Run) {free : ℕ} → free ≡ pick (row step).counts (many is_free r.slots) 0 → (row step).counts ≡ true → free ≡ many is_free r.slots
+pub counted-free : (step : Step) (r : Run) {free : ℕ} → free ≡ pick (row step).counts (many is_free r.slots) 0 → (row step).counts ≡ true
+    → free ≡ many is_free r.slots
 counted-free step r e t = e ∙ ap (λ (x : Bool). pick x (many is_free r.slots) 0) t
 
 -- ---- What the public calls promise

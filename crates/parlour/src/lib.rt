@@ -12,7 +12,7 @@ ghost use Rattle.state.specs.State.{proper};
 ghost use Rattle.parlour.specs.Steps.{within, slot_of, device_of, taken_if, StepPromise, UnplugPromise};
 
 use books::Config;
-use devices::{Here, Message, Sending, Step};
+use devices::{Here, Message, Outcome, Sending, Step};
 use rules::Named;
 use state::{Run, Slot, Stepped};
 
@@ -43,12 +43,12 @@ fn slot_of(step: Step) -> usize
 }
 
 // The place of the acting tablet, of the addressee of the slot's message, or of the device to stop.
-fn device_of(step: Step, m: Message) -> usize
-    ensures { (result ≡ device_of step m) × (result < 24) }
+fn device_of(step: Step, message: Message) -> usize
+    ensures { (result ≡ device_of step message) × (result < 24) }
 {
     match rules::about_step(step).names {
         Named::Tablet(device) | Named::Device(device) => place_within(24, device as usize),
-        Named::Slot(_) => place_within(24, devices::addressee_of(m) as usize),
+        Named::Slot(_) => place_within(24, devices::addressee_of(message) as usize),
     }
 }
 
@@ -80,11 +80,15 @@ fn freed(slot: Slot, frees: bool) -> Slot
 }
 
 // The stopped devices after a step.
-fn stopped_after(stopped: u32, stops: bool, d: usize) -> u32
-    requires { d < 24 }
-    ensures { result ≡ pick stops (union stopped (2 ^ d)) stopped }
+fn stopped_after(stopped: u32, stops: bool, device: usize) -> u32
+    requires { device < 24 }
+    ensures { result ≡ pick stops (union stopped (2 ^ device)) stopped }
 {
-    if stops { stopped | (1 << d) } else { stopped }
+    if stops {
+        stopped | (1 << device)
+    } else {
+        stopped
+    }
 }
 
 // Whether a state is one.
@@ -126,46 +130,44 @@ fn lay(slots: &mut [Slot; 128], sending: Sending)
     }
 }
 
-// One step, told whether the state is one. The rule sees the acting device's parts, its effect is stored, and its messages are laid.
+// One step, told whether the state is one, so that many steps need one look at it. The rule sees the acting device's parts, its effect is stored, and its messages are laid.
 // A refusal gives the parts as they came, so that storing them changes nothing.
-fn take(mut run: Run, proper: bool, step: Step) -> Stepped
-    ensures { result ≡ taken_if proper step run }
+fn take(run: &mut Run, proper: bool, step: Step) -> Outcome
+    ensures { record { outcome = result; run = run.new } ≡ taken_if proper step run.old }
 {
-    let at = slot_of(step);
-    let message = run.slots[at].message;
-    let d = device_of(step, message);
-    let t = place_within(8, d);
-    let e = rules::effect_of(
+    let slot = slot_of(step);
+    let message = run.slots[slot].message;
+    let device = device_of(step, message);
+    let tablet = place_within(8, device);
+    let effect = rules::effect_of(
         proper,
         step,
         message,
         Here {
-            contents: run.devices[d],
-            tablet: run.tablets[t],
+            contents: run.devices[device],
+            tablet: run.tablets[tablet],
             listed: run.listed,
             free: counted(step, &run.slots),
-            stopped: (run.stopped >> d) % 2 == 1,
+            stopped: (run.stopped >> device) % 2 == 1,
         },
     );
-    run.slots[at] = freed(run.slots[at], e.frees);
-    run.devices[d] = e.contents;
-    run.tablets[t] = e.tablet;
-    run.listed = e.listed;
-    run.stopped = stopped_after(run.stopped, e.stops, d);
-    run.kept = devices::kept_after(e.outcome, run.kept);
-    lay(&mut run.slots, e.sending);
-    Stepped {
-        outcome: e.outcome,
-        run,
-    }
+    run.slots[slot] = freed(run.slots[slot], effect.frees);
+    run.devices[device] = effect.contents;
+    run.tablets[tablet] = effect.tablet;
+    run.listed = effect.listed;
+    run.stopped = stopped_after(run.stopped, effect.stops, device);
+    run.kept = devices::kept_after(effect.outcome, run.kept);
+    lay(&mut run.slots, effect.sending);
+    effect.outcome
 }
 
 // One step of a run.
-pub fn step(run: Run, step: Step) -> Stepped
+pub fn step(mut run: Run, step: Step) -> Stepped
     ensures { StepPromise step run result }
 {
     let proper = is_proper(&run);
-    take(run, proper, step)
+    let outcome = take(&mut run, proper, step);
+    Stepped { outcome, run }
 }
 
 pub fn ask(run: Run, tablet: u8, notes: u16, added: u16, removed: u16) -> Stepped

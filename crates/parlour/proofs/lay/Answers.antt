@@ -1,7 +1,7 @@
 use Rattle.std.proofs.Common.{arith, ap, sym, ◌∙◌, length, length-set, position}
 use Rattle.state.specs.Slots.{is_free}
 use borrow.Author.Tests.{eq-eqb, ne_eqb}
-use Rattle.parlour.proofs.Passes.{lay-skip, lay-store, lay-full, lay_done, rest_whole}
+use Rattle.parlour.proofs.Laying.{lay-skip, lay-store, lay-full, lay_done, rest_whole}
 use Rattle.parlour.proofs.lay.Goals.{then-sending-device-eq1+in-Some, else-sending-device-eq1}
 use Rattle.parlour.proofs.lay.Goals as goal
 
@@ -12,8 +12,13 @@ loop-device-preserved c =
     elim c.if-sending-device-eq1.branch [
       | then-sending-device-eq1+in-Some w ↦
           let found = sym rest ∙ sym w.first_free.ensures ∙ w.in-Some.is in
-          let done = lay-store _ _ _ l.next l.device l.slots w.in-Some.place (omega arith) (eq-eqb _ _ w.if-sending-device-eq1.true) found w.address.ensures w.next-is w.slots-is l.invariant.laying in
-          record { long = ap length w.slots-is ∙ length-set _ _ _ ∙ l.invariant.long; within = omega (arith, done.0, l.invariant.long); laying = done.1 }
+          let done = lay-store _ _ _ l.next l.device l.slots w.in-Some.place (omega arith) (eq-eqb _ _ w.if-sending-device-eq1.true) found
+          w.address.ensures w.next-is w.slots-is l.invariant.laying in
+          record {
+            long = ap length w.slots-is ∙ length-set _ _ _ ∙ l.invariant.long;
+            within = omega (arith, done.0, l.invariant.long);
+            laying = done.1;
+          }
       | else-sending-device-eq1 w ↦
           rw (w.slots-is, w.next-is)
           (record {
@@ -28,7 +33,8 @@ returns-in_default c =
     let l = c.loop-device in
     let rest = ap (position is_free) (rest_whole l.next l.slots l.invariant.long) in
     let none = sym rest ∙ sym c.first_free.ensures ∙ c.in_default.is in
-    lay-full _ _ _ l.next l.device l.slots (omega arith) (eq-eqb _ _ c.if-sending-device-eq1.true) (omega (arith, l.invariant.long)) none l.invariant.laying
+    lay-full _ _ _ l.next l.device l.slots (omega arith) (eq-eqb _ _ c.if-sending-device-eq1.true) (omega (arith, l.invariant.long)) none
+    l.invariant.laying
 
 pub returns : goal.returns
 returns c =

@@ -2,7 +2,7 @@
 use Rattle.std.proofs.Common.{◌≡◌, ◌≤◌, length}
 use Rattle.devices.specs.Effects.{messages_of}
 use Rattle.state.specs.Slots.{laid}
-use Rattle.parlour.proofs.Passes.{Laying}
+use Rattle.parlour.proofs.Laying.{Laying}
 use Rattle.parlour.proofs.lay.Given as goal
 
 abbrev pub invariant-loop-device : goal.invariant-loop-device

@@ -1,8 +1,9 @@
--- The laying of the messages of one step, one device each.
+-- The laying of the messages of one step: one turn for each device, where it is no addressee (`lay-skip`), where the next free slot takes its message
+-- (`lay-store`) and where none is left (`lay-full`); and the end (`lay_done`).
 use Prim.Native.Nat.{ℕ, suc, ◌+◌, ◌-◌, ◌≤◌, ◌<◌}
 use mathlib.Core.Bool.{true, false}
 use mathlib.Core.List.{List, [], ◌∷◌}
-use mathlib.Core.Path.{◌≡◌, refl, sym, ap, ◌∙◌}
+use mathlib.Core.Path.{◌≡◌, sym, ap, ◌∙◌}
 use native.Mathlib.Numerals.{add-one}
 use native.Mathlib.Omega.{arith}
 use lib.ListN.{take, drop, set, length, length-drop}
@@ -11,7 +12,7 @@ use Rattle.sets.specs.Sets.{has}
 use Rattle.devices.specs.declared.Message.{Message}
 use Rattle.devices.specs.Effects.{addressed, copies}
 use Rattle.state.specs.declared.Slot.{Slot}
-use Rattle.state.specs.Slots.{is_free, laid}
+use Rattle.state.specs.Slots.{is_free}
 use Rattle.state.proofs.SlotLaws.{holding, laid_from, laid-from-none, laid-first, laid-full}
 use Rattle.std.specs.Prelude.{Some, None, position}
 
@@ -44,9 +45,6 @@ rest_whole p slots long = take_all (128 - p) (drop p slots) (omega (arith, long,
 -- from slot p and device q on
 abbrev pub Laying : Message → ℕ → List Slot → ℕ → ℕ → List Slot → Type 0
 Laying m to whole p q slots = laid_from p (copies m to q (24 - q)) slots ≡ whole
-
-pub lay-start : (m : Message) (to : ℕ) (slots : List Slot) → Laying m to (laid (copies m to 0 24) slots) 0 0 slots
-lay-start m to slots = refl
 
 module _ (m : Message) (to : ℕ) (whole : List Slot) (p q : ℕ) (slots : List Slot) where
   -- a device that is no addressee is passed
