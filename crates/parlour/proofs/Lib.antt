@@ -1,7 +1,7 @@
 -- Reading order: each file uses only those above it.
--- Of the functions: which slot and device a step is about, the passes over the slots, and the stores of one step.
+-- Of the functions: which slot and device a step is about, the laying of messages, and the stores of one step.
 pub mod Places
-pub mod Passes
+pub mod Laying
 pub mod Taking
 -- Of the rules: what a step may do, case by case; how an ask names its pair; what an effect makes of a run.
 pub mod Acts

@@ -1,20 +1,25 @@
--- Laws of the table of slots: of looking through a list by an index, one turn of a loop each, and of laying messages into the lowest free slots.
+-- Laws of the table of slots: of what holds of all and of how many, and of laying messages into the lowest free slots.
 -- What stands in the table after laying is what stood there, or one of the messages (`laid-at`); a filled slot stays (`laid-keeps`), a free one takes
 -- the message whose number is how many free slots stand before it (`laid-lowest`); where there are free slots enough, every message takes one
--- (`laid-count`). A pass over the slots by an index is `laid-store` and `laid-pass`.
-use Prim.Native.Nat.{ℕ, zero, suc, ◌+◌, ◌≤◌, ◌<◌}
-use mathlib.Core.Bool.{Bool, true, false, not}
+-- (`laid-count`). The search for the next free slot in a pass is `laid-first` and `laid-full`.
+use Prim.Native.Nat.{ℕ, zero, suc, ◌+◌, ◌-◌, ◌≤◌, ◌<◌}
+use mathlib.Core.Bool.{Bool, true, false, not, cond}
 use mathlib.Core.List.{List, [], ◌∷◌, ◌++◌, append-nil}
 use mathlib.Core.Path.{◌≡◌, refl, sym, ap, ap₂, ◌∙◌}
 use mathlib.Core.Logic.{◌⊎◌, inl, inr, ⊎_elim}
-use native.Mathlib.Nat.{lt_irrefl}
+use native.Mathlib.Nat.{lt_irrefl, add-zero}
 use native.Mathlib.Numerals.{add-one}
 use native.Mathlib.Omega.{arith}
-use lib.ListN.{get_or, take, drop, set, length, drop_of_length-le, take-append-drop}
+use lib.ListN.{get_or, take, drop, set, length, length-drop, drop_of_length-le, take-append-drop}
 use lib.Seq.{drop-cons, take_all, take-suc, take-suc-set, drop-set-lt, append_snoc}
-use borrow.Author.Tests.{not-true}
+use borrow.Author.Tests.{not-true, ltb-true, ltb-false}
+use Rattle.std.proofs.lemmas.List.{get_or-drop}
+use lib.Dec.{ltb}
+use Rattle.std.specs.Prelude.{Some, None, position}
+use Rattle.std.specs.List.{position_or_len}
+use Rattle.std.proofs.lemmas.List.Sums.{passes_at_first, fails_before_first}
 use Rattle.sets.specs.Choice.{pick, both}
-use Rattle.sets.proofs.BoundedLaws.{both_left, both_right, both-on, both_yes, both-assoc}
+use Rattle.sets.proofs.BoundedLaws.{both_left, both_right, both-on}
 use Rattle.devices.specs.declared.Message.{Message}
 use Rattle.devices.specs.declared.Message.TheVariants.{Empty, Request, Answer, Commit}
 use Rattle.devices.specs.Effects.{is_empty}
@@ -24,18 +29,6 @@ use Rattle.state.specs.Slots.{empty_slot, is_free, all, many, laid}
 -- ---- Of all
 
 module _ {A : Type 0} (p : A → Bool) (d : A) where
-  -- the test of the rest from place i on, by its element there
-  all_drop : (xs : List A) (i : ℕ) → i < length xs → all p (drop i xs) ≡ both (p (get_or xs i d)) (all p (drop (i + 1) xs))
-  unfolding all
-  all_drop xs i h = rw (drop-cons xs i d h, add-one i)
-
-  -- one turn of a loop that tests one element after the other: the test so far, with what is left to test, stays what it was
-  pub all-turn : (xs : List A) (i : ℕ) (ok : Bool) {next total : Bool} → i < length xs → next ≡ both ok (p (get_or xs i d))
-      → both ok (all p (drop i xs)) ≡ total → both next (all p (drop (i + 1) xs)) ≡ total
-  all-turn xs i ok h q e =
-      ap (λ (b : Bool). both b (all p (drop (i + 1) xs))) q ∙ both-assoc ok (p (get_or xs i d)) (all p (drop (i + 1) xs))
-      ∙ ap (both ok) (sym (all_drop xs i h)) ∙ e
-
   -- what holds of all holds at each place, and the other way
   pub all-at : p d ≡ true → (xs : List A) → all p xs ≡ true → (k : ℕ) → p (get_or xs k d) ≡ true
   unfolding all
@@ -47,15 +40,6 @@ module _ {A : Type 0} (p : A → Bool) (d : A) where
   unfolding all
   at_all [] h = refl
   at_all (x ∷ xs) h = both-on (p x) (all p xs) (h zero) (at_all xs (λ k. h (suc k)))
-
-module _ {A : Type 0} (p : A → Bool) where
-  all_end : (xs : List A) (i : ℕ) → length xs ≤ i → all p (drop i xs) ≡ true
-  unfolding all
-  all_end xs i h = rw (drop_of_length-le xs h)
-
-  -- the loop's end: nothing is left to test
-  pub all_done : (xs : List A) (i : ℕ) (ok : Bool) {total : Bool} → length xs ≤ i → both ok (all p (drop i xs)) ≡ total → ok ≡ total
-  all_done xs i ok h e = sym (both_yes ok) ∙ ap (both ok) (sym (all_end xs i h)) ∙ e
 
 -- two tests that agree on every element
 pub all_same : {A : Type 0} (p q : A → Bool) (xs : List A) → ((x : A) → p x ≡ q x) → all p xs ≡ all q xs
@@ -74,20 +58,7 @@ module _ {A : Type 0} (p : A → Bool) (x : A) (xs : List A) where
   unfolding many
   many-no e = ap (λ (t : Bool). pick t (suc (many p xs)) (many p xs)) e
 
-module _ {A : Type 0} (p : A → Bool) (d : A) where
-  pub many-in : (xs : List A) (i : ℕ) → i < length xs → p (get_or xs i d) ≡ true → many p (drop i xs) ≡ suc (many p (drop (i + 1) xs))
-  unfolding many
-  many-in xs i h e = rw (drop-cons xs i d h, e, add-one i)
-
-  pub many-out : (xs : List A) (i : ℕ) → i < length xs → p (get_or xs i d) ≡ false → many p (drop i xs) ≡ many p (drop (i + 1) xs)
-  unfolding many
-  many-out xs i h e = rw (drop-cons xs i d h, e, add-one i)
-
 module _ {A : Type 0} (p : A → Bool) where
-  pub many-end : (xs : List A) (i : ℕ) → length xs ≤ i → many p (drop i xs) ≡ 0
-  unfolding many
-  many-end xs i h = rw (drop_of_length-le xs h)
-
   many-le : (xs : List A) → many p xs ≤ length xs
   unfolding many
   many-le [] = omega arith
@@ -241,13 +212,56 @@ module _ (m : Message) (ms : List Message) (slots : List Slot) (i : ℕ) (h : i 
   laid-past e = rw (add-one i, drop-cons slots i empty_slot h) (laid_filled m ms (get_or slots i empty_slot) (drop (suc i) slots) e)
 
   -- the next message is stored in a free slot
-  pub laid-store : is_free (get_or slots i empty_slot) ≡ true → laid_from (i + 1) ms (set slots i (holding m)) ≡ laid_from i (m ∷ ms) slots
+  laid-store : is_free (get_or slots i empty_slot) ≡ true → laid_from (i + 1) ms (set slots i (holding m)) ≡ laid_from i (m ∷ ms) slots
   laid-store e =
       rw (laid-here e, add-one i, take-suc-set slots i (holding m) h, drop-set-lt (suc i) slots i (holding m) (omega arith))
       (append_snoc (take i slots) (holding m) (laid ms (drop (suc i) slots)))
 
   -- a filled slot is passed by
-  pub laid-pass : is_free (get_or slots i empty_slot) ≡ false → laid_from (i + 1) (m ∷ ms) slots ≡ laid_from i (m ∷ ms) slots
+  laid-pass : is_free (get_or slots i empty_slot) ≡ false → laid_from (i + 1) (m ∷ ms) slots ≡ laid_from i (m ∷ ms) slots
   laid-pass e =
       rw (laid-past e, add-one i, take-suc slots i empty_slot h)
       (append_snoc (take i slots) (get_or slots i empty_slot) (laid (m ∷ ms) (drop (suc i) slots)))
+
+-- the search for the first free slot from place i on
+module _ (m : Message) (ms : List Message) (slots : List Slot) (i : ℕ) where
+  abbrev first : ℕ
+  first = position_or_len is_free (drop i slots)
+
+  -- the filled slots before it are passed by
+  passed-by : (k : ℕ) → k ≤ first → i + k ≤ length slots → laid_from (i + k) (m ∷ ms) slots ≡ laid_from i (m ∷ ms) slots
+  passed-by zero h l = ap (λ (j : ℕ). laid_from j (m ∷ ms) slots) (add-zero i)
+  passed-by (suc k) h l =
+      let next : i + suc k ≡ i + k + 1 = omega arith in
+      let filled = sym (ap is_free (get_or-drop i slots k empty_slot)) ∙ fails_before_first is_free (drop i slots) k empty_slot (omega arith) in
+      ap (λ (j : ℕ). laid_from j (m ∷ ms) slots) next ∙ laid-pass m ms slots (i + k) (omega arith) filled
+      ∙ passed-by k (omega arith) (omega arith)
+
+  -- it takes the next message
+  pub laid-first : (place : ℕ) → position is_free (drop i slots) ≡ Some place
+      → (i + place < length slots) × (laid_from (i + place + 1) ms (set slots (i + place) (holding m)) ≡ laid_from i (m ∷ ms) slots)
+  laid-first place e = go (ltb first (length (drop i slots))) refl e
+    where
+      go : (t : Bool) → ltb first (length (drop i slots)) ≡ t → cond t (Some first) None ≡ Some place
+          → (i + place < length slots) × (laid_from (i + place + 1) ms (set slots (i + place) (holding m)) ≡ laid_from i (m ∷ ms) slots)
+      go true l f =
+          let q : first ≡ place = cc in
+          let h = ltb-true first (length (drop i slots)) l in
+          let below : i + place < length slots = omega (arith, length-drop i slots) in
+          let free = sym (ap is_free (get_or-drop i slots first empty_slot)) ∙ passes_at_first is_free (drop i slots) empty_slot h in (
+            below,
+            laid-store m ms slots (i + place) below (ap (λ (j : ℕ). is_free (get_or slots (i + j) empty_slot)) (sym q) ∙ free)
+                ∙ passed-by place (omega arith) (omega arith),
+          )
+      go false l f = cc
+
+  -- where there is none, no message is laid
+  pub laid-full : i ≤ length slots → position is_free (drop i slots) ≡ None → laid_from i (m ∷ ms) slots ≡ slots
+  laid-full h e = go (ltb first (length (drop i slots))) refl e
+    where
+      go : (t : Bool) → ltb first (length (drop i slots)) ≡ t → cond t (Some first) None ≡ None → laid_from i (m ∷ ms) slots ≡ slots
+      go true l f = cc
+      go false l f =
+          let n = ltb-false first (length (drop i slots)) l in
+          let d = length-drop i slots in
+          sym (passed-by (length slots - i) (omega arith) (omega arith)) ∙ laid-from-end (i + (length slots - i)) (m ∷ ms) slots (omega arith)

@@ -5,8 +5,7 @@ ghost use Rattle.std.specs.Prelude.{◌≡◌, not, ◌<◌, ◌≤◌};
 ghost use Rattle.sets.specs.Bounded.{each};
 ghost use Rattle.books.specs.Books.{same_config};
 ghost use Rattle.books.specs.Queried.{change_at};
-ghost use Rattle.state.specs.Slots.{all};
-ghost use Rattle.state.specs.State.{fresh, StartPromise, names_listed, all_different, proper_contents, proper_phase, proper_tablet, proper_letter, proper_up_to, proper_desk, is_box};
+ghost use Rattle.state.specs.State.{fresh, StartPromise, names_listed, all_different, proper_phase, proper_tablet, proper_letter, proper_up_to, proper_desk, is_box};
 
 use books::{Book, Config, Listed};
 use devices::{Accepted, Contents, Letter, Message, Outcome, Phase, Tablet};
@@ -108,16 +107,10 @@ fn differs(listed: Listed, later: usize) -> bool
     requires { later < 6 }
     ensures { result ≡ each later (λ earlier. not (same_config (change_at listed earlier) (change_at listed later))) }
 {
-    let changes = listed.changes;
-    let b = changes[later];
-    let mut ok = true;
-    let mut i: usize = 0;
-    while i < later {
-        let a = changes[i];
-        ok = ok & !books::same_config(a, b);
-        i += 1;
-    }
-    ok
+    let change = listed.changes[later];
+    listed.changes[..later]
+        .iter()
+        .all(|earlier| !books::same_config(*earlier, change))
 }
 
 // Whether all listed changes differ.
@@ -125,28 +118,7 @@ fn all_differ(listed: Listed) -> bool
     requires { listed.count ≤ 6 }
     ensures { result ≡ all_different listed }
 {
-    let n = listed.count;
-    let mut ok = true;
-    let mut i: usize = 0;
-    while i < n {
-        ok = ok & differs(listed, i);
-        i += 1;
-    }
-    ok
-}
-
-fn proper_devices(devices: [Contents; 24], n: usize) -> bool
-    requires { n ≤ 6 }
-    ensures { result ≡ all (proper_contents n) devices }
-{
-    let mut ok = true;
-    let mut i: usize = 0;
-    while i < 24 {
-        let c = devices[i];
-        ok = ok & names_listed(n, c.t);
-        i += 1;
-    }
-    ok
+    (0..listed.count).all(|later| differs(listed, later))
 }
 
 fn proper_phase(n: usize, phase: Phase) -> bool
@@ -159,19 +131,11 @@ fn proper_phase(n: usize, phase: Phase) -> bool
     }
 }
 
-fn proper_tablets(tablets: [Tablet; 8], n: usize) -> bool
+fn proper_tablet(n: usize, tablet: Tablet) -> bool
     requires { n ≤ 6 }
-    ensures { result ≡ all (proper_tablet n) tablets }
+    ensures { result ≡ proper_tablet n tablet }
 {
-    let mut ok = true;
-    let mut i: usize = 0;
-    while i < 8 {
-        let x = tablets[i];
-        let phase = x.phase;
-        ok = ok & (x.round <= 1023) & proper_phase(n, phase);
-        i += 1;
-    }
-    ok
+    (tablet.round <= 1023) & proper_phase(n, tablet.phase)
 }
 
 // Whether everything but the slots is proper.
@@ -183,7 +147,9 @@ pub fn proper_desk(listed: Listed, devices: [Contents; 24], tablets: [Tablet; 8]
     if 6 < n {
         return false;
     }
-    all_differ(listed) & proper_devices(devices, n) & proper_tablets(tablets, n)
+    all_differ(listed)
+        & devices.iter().all(|contents| names_listed(n, contents.t))
+        & tablets.iter().all(|tablet| proper_tablet(n, *tablet))
 }
 
 fn is_box(d: u8) -> bool

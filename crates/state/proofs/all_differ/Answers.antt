@@ -1,22 +1,17 @@
-use mathlib.Core.Path.{◌≡◌, ap}
-use native.Mathlib.Omega.{arith}
-use Rattle.sets.specs.Choice.{both}
-use Rattle.sets.proofs.BoundedLaws.{each-zero, each_on}
+use mathlib.Core.Path.{◌∙◌}
+use native.Mathlib.Nat.{sub-zero}
+use Rattle.std.proofs.Common.{rules}
+use borrow.Author.Tests.{tests}
+use Rattle.std.proofs.lemmas.Iterator.{YieldsList-from_range}
+use Rattle.std.proofs.lemmas.Iterator.Search.{all_from_yields_List}
 use Rattle.state.specs.State.{all_different}
 use Rattle.state.proofs.StateLaws.{is_new}
+use Rattle.state.proofs.Chains.{list_each-range}
 use Rattle.state.proofs.all_differ.Goals as goal
-
-pub loop-i-init : goal.loop-i-init
-loop-i-init c = (omega arith, each-zero _)
-
-pub loop-i-preserved : goal.loop-i-preserved
-loop-i-preserved c =
-    let l = c.loop-i in
-    (omega arith, each_on (is_new c.args.listed) l.i l.invariant.1 (ap (both l.ok) c.differs-ok.ensures))
 
 pub returns : goal.returns
 unfolding all_different
 returns c =
-    let l = c.loop-i in
-    let e : l.i ≡ c.args.listed.count = omega arith in
-    rw e at l.invariant.1
+    let listed = c.args.listed in
+    all_from_yields_List (is_new listed) _ _ _ c.all.ensures.ran (YieldsList-from_range 0 listed.count listed.count (cc) (sub-zero listed.count)) (λ x b q k. search (rules, tests))
+    ∙ list_each-range (is_new listed) listed.count

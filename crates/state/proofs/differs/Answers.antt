@@ -1,14 +1,18 @@
-use mathlib.Core.Bool.{Bool, not}
-use mathlib.Core.Path.{ap}
-use native.Mathlib.Omega.{arith}
-use Rattle.sets.specs.Choice.{both}
-use Rattle.sets.proofs.BoundedLaws.{each-zero, each_on}
+use mathlib.Core.Bool.{not}
+use Rattle.std.proofs.Common.{rules, ◌∙◌, refl, take, arith}
+use borrow.Author.Tests.{tests}
+use Rattle.std.proofs.lemmas.Iterator.{YieldsList-from_slice}
+use Rattle.std.proofs.lemmas.Iterator.Search.{all_from_yields_List}
+use Rattle.books.specs.Books.{no_config, same_config}
+use Rattle.books.specs.Queried.{change_at}
+use Rattle.state.proofs.Chains.{list_each}
 use Rattle.state.proofs.differs.Goals as goal
 
-pub loop-i-init : goal.loop-i-init
-loop-i-init c = (omega arith, each-zero _)
-
-pub loop-i-preserved : goal.loop-i-preserved
-loop-i-preserved c =
-    let l = c.loop-i in
-    (omega arith, each_on _ l.i l.invariant.1 (ap (λ (same : Bool). both l.ok (not same)) c.same_config.ensures))
+pub returns : goal.returns
+returns c =
+    let a = c.args in
+    let changes = a.listed.changes in
+    all_from_yields_List (λ earlier. not (same_config earlier (change_at a.listed a.later))) _ _ _ c.all.ensures.ran
+    (YieldsList-from_slice (take a.later changes) cc)
+    (λ x b q k. search (rules, tests))
+    ∙ list_each _ no_config changes _ a.later (omega arith) (λ k l. refl)
