@@ -8,12 +8,12 @@ pub(crate) struct Answer(pub(crate) Outcome);
 
 impl fmt::Display for Answer {
     fn fmt<W: fmt::Write>(&self, f: &mut fmt::Formatter<W>) -> fmt::Result {
-        let number = devices::number_of(self.0);
+        write!(f, "{}", devices::number_of(self.0))?;
         match self.0 {
-            Outcome::Done | Outcome::Refused(_) => write!(f, "{number}"),
-            Outcome::Round(round) => write!(f, "{number} R {round}"),
-            Outcome::Committed(book) => write!(f, "{number} C {}", Handed(book)),
-            Outcome::Adopted(book) => write!(f, "{number} A {}", Handed(book)),
+            Outcome::Done | Outcome::Refused(_) => Ok(()),
+            Outcome::Round(round) => write!(f, " R {round}"),
+            Outcome::Committed(book) => write!(f, " C {}", Handed(book)),
+            Outcome::Adopted(book) => write!(f, " A {}", Handed(book)),
         }
     }
 }

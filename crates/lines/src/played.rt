@@ -14,8 +14,7 @@ pub struct Played {
 }
 
 impl Form for Played {
-    fn start(&self, first: u16) -> Run {
-        let fresh = state::start(first).run;
+    fn start(&self, fresh: Run) -> Run {
         match self.from {
             None => fresh,
             Some(round) => idle_in(fresh, round),
@@ -34,7 +33,7 @@ impl Form for Played {
     }
 
     // The number of steps, the number of books handed back.
-    fn write_end<W: fmt::Write>(&self, out: &mut W, steps: usize, books: u64) -> fmt::Result {
+    fn write_end<W: fmt::Write>(&self, out: &mut W, steps: usize, books: usize) -> fmt::Result {
         writeln!(out, "END {steps} {books}")
     }
 

@@ -8,9 +8,9 @@ use tape::Read;
 
 // A form in which a tape is shown.
 pub trait Form {
-    // The run that the steps are taken from.
-    fn start(&self, first: u16) -> Run {
-        state::start(first).run
+    // The run that the steps are taken from, in place of a fresh one.
+    fn start(&self, fresh: Run) -> Run {
+        fresh
     }
 
     // What stands before the steps.
@@ -28,7 +28,7 @@ pub trait Form {
     ) -> fmt::Result;
 
     // What stands behind the steps.
-    fn write_end<W: fmt::Write>(&self, _out: &mut W, _steps: usize, _books: u64) -> fmt::Result {
+    fn write_end<W: fmt::Write>(&self, _out: &mut W, _steps: usize, _books: usize) -> fmt::Result {
         Ok(())
     }
 
@@ -36,12 +36,8 @@ pub trait Form {
     fn refuse(&self, rt: &(impl Print + Eprint), number: u8) -> Result<(), Failure>;
 }
 
-// How many books an outcome hands back.
-fn books_in(outcome: Outcome) -> u64 {
-    match outcome {
-        Outcome::Committed(_) | Outcome::Adopted(_) => 1,
-        Outcome::Done | Outcome::Round(_) | Outcome::Refused(_) => 0,
-    }
+fn hands_back_a_book(outcome: Outcome) -> bool {
+    matches!(outcome, Outcome::Committed(_) | Outcome::Adopted(_))
 }
 
 // Takes the steps from the start. A refused step leaves the run going.
@@ -52,13 +48,14 @@ fn write_steps<W: fmt::Write>(
     words: &[u64],
 ) -> fmt::Result {
     form.write_head(out, first)?;
-    let mut run = form.start(first);
-    let mut books: u64 = 0;
+    let mut run = form.start(state::start(first).run);
+    let mut books: usize = 0;
     for (number, word) in words.iter().enumerate() {
         let stepped = replay::play_word(run, *word);
         run = stepped.run;
-        // Each step hands back one book at most, so the sum never wraps.
-        books = books.wrapping_add(books_in(stepped.outcome));
+        if hands_back_a_book(stepped.outcome) {
+            books += 1;
+        }
         // No word of a tape that was read is no step.
         if let Decoded::Step(step) = replay::decode(*word) {
             form.write_step(out, number, step, stepped.outcome)?;

@@ -1,4 +1,7 @@
 // How a program ended. It writes that as a number to a file that an argument names.
+ghost use Rattle.std.specs.Prelude.{◌≡◌};
+ghost use Rattle.streams.specs.declared.ended.Failure.TheVariants.{Failed};
+
 use crate::input::ReadFailed;
 use crate::said::fail;
 use std::env::FillError;
@@ -16,12 +19,16 @@ pub enum Failure {
 }
 
 impl From<ReadFailed> for Failure {
+    ghost from_gives = { λ _ failure. failure ≡ Failed };
+
     fn from(_: ReadFailed) -> Failure {
         Failure::Failed
     }
 }
 
 impl From<fmt::Error> for Failure {
+    ghost from_gives = { λ _ failure. failure ≡ Failed };
+
     fn from(_: fmt::Error) -> Failure {
         Failure::Failed
     }

@@ -1,21 +1,24 @@
 // Standard output, in blocks of 4,096 bytes: a full block is written out and begun anew, so nothing is left out and no line is too long.
-ghost use Rattle.std.specs.Prelude.{◌≡◌, OnOk};
+ghost use Rattle.std.specs.Prelude.{◌≡◌, IfErr, OnOk};
 ghost use Rattle.arrayvec.specs.ArrayVec.{array_vec_len};
+ghost use Rattle.streams.specs.declared.ended.Failure.TheVariants.{Failed};
 
 use crate::ended::Failure;
 use crate::said::fail;
 use arrayvec::ArrayVec;
 use std::fmt;
 
-// Bytes on standard output at once; a failure is said at once, while its reason is known.
-pub fn write_all(rt: &(impl Print + Eprint), bytes: &[u8]) -> Result<(), Failure> {
+// Bytes on standard output, not collected. A failure is said at once, while its reason is known.
+pub fn write_all(rt: &(impl Print + Eprint), bytes: &[u8]) -> Result<(), Failure>
+    ensures { IfErr result (λ failure. failure ≡ Failed) }
+{
     rt.write_all(bytes).map_err(|why| {
         fail(rt, "standard output", why);
         Failure::Failed
     })
 }
 
-// Text on its way to standard output. The first write that fails ends it: the failure was said, and whoever gets it passes it on.
+// Text on its way to standard output. A failed write is said there, and handed on as an `Err`, so that nothing more is written.
 #[derive(Drop)]
 pub struct Output<'a, R> {
     rt: &'a R,
@@ -31,7 +34,8 @@ impl<'a, R: Print + Eprint> Output<'a, R> {
     }
 
     fn write_block(&mut self) -> Result<(), Failure>
-        ensures { OnOk result (array_vec_len self.new.block ≡ 0) }
+        ensures emptied { OnOk result (array_vec_len self.new.block ≡ 0) }
+        ensures failed { IfErr result (λ failure. failure ≡ Failed) }
     {
         write_all(self.rt, self.block.as_slice())?;
         self.block.clear();
@@ -47,7 +51,9 @@ impl<'a, R: Print + Eprint> Output<'a, R> {
     }
 
     // Writes what is collected.
-    pub fn end(mut self) -> Result<(), Failure> {
+    pub fn end(mut self) -> Result<(), Failure>
+        ensures { IfErr result (λ failure. failure ≡ Failed) }
+    {
         self.write_block()
     }
 }

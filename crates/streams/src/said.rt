@@ -3,7 +3,7 @@ use std::fmt::Display;
 use std::io;
 
 // A line on standard error.
-pub fn say<T: Display + Drop>(rt: &impl Eprint, line: T) {
+pub fn say(rt: &impl Eprint, line: impl Display + Drop) {
     // Where that cannot be written, nothing is left to say it by.
     let _ = rt.eprintln(line);
 }
