@@ -2,26 +2,26 @@
 // No tape brings a fresh run to the last rounds. How that ended goes to the file that the second argument names, where there is one.
 #![tactic(auto)]
 
-use lines::Form;
-use streams::{Ended, Number, Word};
+use lines::Played;
+use std::rt::Env;
+use streams::Failure;
 
-fn no_round(rt: &impl Eprint) -> Ended {
-    streams::say(rt, b"the first argument is a round, 0 to 65535\n");
-    Ended::Failed
+// The round that the first argument gives.
+fn round(rt: &impl Env) -> Option<u16> {
+    let number = streams::argument(rt, 1)?.decimal?;
+    u16::try_from(number).ok()
 }
 
-fn play_from(rt: &(impl Input + Print + Eprint), round: Word) -> Ended {
-    let number = round.decimal;
-    let Number::Is(value) = number else {
-        return no_round(rt);
-    };
-    if (round.length == 0) | (65535 < value) {
-        return no_round(rt);
+fn play_from(rt: &(impl Input + Print + Eprint + Env)) -> Result<(), Failure> {
+    let from = round(rt);
+    if from.is_none() {
+        streams::say(rt, "the first argument is a round, 0 to 65535");
+        return Err(Failure::Failed);
     }
-    lines::show_input(rt, Form::PlayedFrom((value % 65536) as u16))
+    lines::show_input(rt, &Played { from })
 }
 
 fn main(rt: HostRuntime) {
-    let ended = play_from(&rt, streams::argument(&rt, 1));
+    let ended = play_from(&rt);
     streams::end_with(&rt, 2, ended);
 }

@@ -7,5 +7,7 @@ mod played;
 mod refused;
 mod shown;
 
+pub use listed::Listed;
+pub use played::Played;
 pub use refused::say_refused;
 pub use shown::{Form, show_input};

@@ -1,60 +1,62 @@
-// The lines of a tape that is listed: its text form, with the answer of each step behind a colon.
-use crate::answers::{put_answer, put_set};
-use books::Config;
+// A tape listed: its text form, which can be written as the tape again, with the answer of each step behind a colon.
+use crate::answers::Answer;
+use crate::refused::say_refused;
+use crate::shown::Form;
 use devices::{Outcome, Step};
-use streams::{Out, put, put_decimal};
+use refusals::Refusal;
+use std::fmt;
+use streams::Failure;
 
-// The notes in two digits where none of the last eight of the sixteen is there, which is a short Ask on the tape, else in four.
-fn put_ask(
-    rt: &(impl Print + Eprint),
-    buffer: &mut [u8; 4096],
-    out: Out,
-    tablet: u8,
-    notes: u16,
-    pair: Config,
-) -> Out {
-    let after_tablet = put_decimal(rt, buffer, out, b"ask ", tablet as u64);
-    let digits: usize = if notes <= 0xff { 2 } else { 4 };
-    let after_notes = put_set(rt, buffer, after_tablet, notes as u64, digits);
-    let after_added = put_set(rt, buffer, after_notes, pair.added as u64, 4);
-    put_set(rt, buffer, after_added, pair.removed as u64, 4)
-}
+#[derive(Clone, Copy)]
+pub struct Listed;
 
-fn put_words(rt: &(impl Print + Eprint), buffer: &mut [u8; 4096], out: Out, step: Step) -> Out {
-    match step {
-        Step::Ask {
-            tablet,
-            notes,
-            pair,
-        } => put_ask(rt, buffer, out, tablet, notes, pair),
-        Step::Advance(tablet) => put_decimal(rt, buffer, out, b"advance ", tablet as u64),
-        Step::Deliver(slot) => put_decimal(rt, buffer, out, b"deliver ", slot as u64),
-        Step::Lose(slot) => put_decimal(rt, buffer, out, b"lose ", slot as u64),
-        Step::Repeat(slot) => put_decimal(rt, buffer, out, b"repeat ", slot as u64),
-        Step::Stop(device) => put_decimal(rt, buffer, out, b"stop ", device as u64),
+impl Form for Listed {
+    fn write_head<W: fmt::Write>(&self, out: &mut W, first: u16) -> fmt::Result {
+        writeln!(out, "first {first:04x}")
+    }
+
+    fn write_step<W: fmt::Write>(
+        &self,
+        out: &mut W,
+        _number: usize,
+        step: Step,
+        outcome: Outcome,
+    ) -> fmt::Result {
+        writeln!(out, "{} : {}", Text(step), Answer(outcome))
+    }
+
+    // On standard error; nothing is listed.
+    fn refuse(&self, rt: &(impl Print + Eprint), refusal: Refusal) -> Result<(), Failure> {
+        say_refused(rt, refusal);
+        Err(Failure::Refused)
     }
 }
 
-// The first line: the first boxes.
-pub(crate) fn put_first(
-    rt: &(impl Print + Eprint),
-    buffer: &mut [u8; 4096],
-    out: Out,
-    first: u16,
-) -> Out {
-    let before_first = put(rt, buffer, out, b"first");
-    let after_first = put_set(rt, buffer, before_first, first as u64, 4);
-    put(rt, buffer, after_first, b"\n")
-}
+// A step in the text form. The notes have two digits where none of the last eight of the sixteen is there, which is a short Ask on
+// the tape, else four.
+#[derive(Clone, Copy)]
+struct Text(Step);
 
-// The line of a step and its answer.
-pub(crate) fn put_listed(
-    rt: &(impl Print + Eprint),
-    buffer: &mut [u8; 4096],
-    out: Out,
-    step: Step,
-    outcome: Outcome,
-) -> Out {
-    let after_words = put_words(rt, buffer, out, step);
-    put_answer(rt, buffer, after_words, b" : ", outcome)
+impl fmt::Display for Text {
+    fn fmt<W: fmt::Write>(&self, f: &mut fmt::Formatter<W>) -> fmt::Result {
+        match self.0 {
+            Step::Ask {
+                tablet,
+                notes,
+                pair,
+            } => {
+                let digits = if notes <= 0xff { 2 } else { 4 };
+                write!(
+                    f,
+                    "ask {tablet} {notes:0digits$x} {:04x} {:04x}",
+                    pair.added, pair.removed
+                )
+            }
+            Step::Advance(tablet) => write!(f, "advance {tablet}"),
+            Step::Deliver(slot) => write!(f, "deliver {slot}"),
+            Step::Lose(slot) => write!(f, "lose {slot}"),
+            Step::Repeat(slot) => write!(f, "repeat {slot}"),
+            Step::Stop(device) => write!(f, "stop {device}"),
+        }
+    }
 }

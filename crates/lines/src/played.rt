@@ -1,52 +1,68 @@
-// The lines of a tape that is played (01, "The tape").
-use crate::answers::put_answer;
-use devices::{Outcome, Step};
-use streams::{Out, put, put_decimal};
+// A tape played (01, "The tape").
+use crate::answers::Answer;
+use crate::shown::Form;
+use devices::{Outcome, Phase, Step, Tablet};
+use refusals::Refusal;
+use state::Run;
+use std::fmt;
+use std::fmt::Write;
+use streams::{Failure, Output};
 
-// A step's name and its answer.
-fn put_named(
-    rt: &(impl Print + Eprint),
-    buffer: &mut [u8; 4096],
-    out: Out,
-    step: Step,
-    outcome: Outcome,
-) -> Out {
-    match step {
-        Step::Ask {
-            tablet: _,
-            notes: _,
-            pair: _,
-        } => put_answer(rt, buffer, out, b" ASK ", outcome),
-        Step::Advance(_) => put_answer(rt, buffer, out, b" ADV ", outcome),
-        Step::Deliver(_) => put_answer(rt, buffer, out, b" DLV ", outcome),
-        Step::Lose(_) => put_answer(rt, buffer, out, b" LOS ", outcome),
-        Step::Repeat(_) => put_answer(rt, buffer, out, b" REP ", outcome),
-        Step::Stop(_) => put_answer(rt, buffer, out, b" STP ", outcome),
+// Played from a fresh start, or from a run whose tablets start idle in a round: no tape reaches the last rounds from a fresh start.
+#[derive(Clone, Copy)]
+pub struct Played {
+    pub from: Option<u16>,
+}
+
+impl Form for Played {
+    fn start(&self, fresh: Run) -> Run {
+        match self.from {
+            None => fresh,
+            Some(round) => idle_in(fresh, round),
+        }
+    }
+
+    // Its number, its name and its answer.
+    fn write_step<W: fmt::Write>(
+        &self,
+        out: &mut W,
+        number: usize,
+        step: Step,
+        outcome: Outcome,
+    ) -> fmt::Result {
+        writeln!(out, "{number} {} {}", name(step), Answer(outcome))
+    }
+
+    // The number of steps, the number of books handed back.
+    fn write_end<W: fmt::Write>(&self, out: &mut W, steps: usize, books: usize) -> fmt::Result {
+        writeln!(out, "END {steps} {books}")
+    }
+
+    // A line in place of the steps.
+    fn refuse(&self, rt: &(impl Print + Eprint), refusal: Refusal) -> Result<(), Failure> {
+        let mut out = Output::new(rt);
+        writeln!(out, "BAD {}", u8::from(refusal))?;
+        out.end()?;
+        Err(Failure::Refused)
     }
 }
 
-// The line of a step: its number, its name and its answer.
-pub(crate) fn put_played(
-    rt: &(impl Print + Eprint),
-    buffer: &mut [u8; 4096],
-    out: Out,
-    number: usize,
-    step: Step,
-    outcome: Outcome,
-) -> Out {
-    let after_number = put_decimal(rt, buffer, out, b"", number as u64);
-    put_named(rt, buffer, after_number, step, outcome)
+fn idle_in(mut run: Run, round: u16) -> Run {
+    let tablet = Tablet {
+        round,
+        phase: Phase::Idle,
+    };
+    run.tablets = [tablet; 8];
+    run
 }
 
-// The last line: the number of steps, the number of books handed back.
-pub(crate) fn put_end(
-    rt: &(impl Print + Eprint),
-    buffer: &mut [u8; 4096],
-    out: Out,
-    steps: usize,
-    books: u64,
-) -> Out {
-    let after_steps = put_decimal(rt, buffer, out, b"END ", steps as u64);
-    let after_books = put_decimal(rt, buffer, after_steps, b" ", books);
-    put(rt, buffer, after_books, b"\n")
+fn name(step: Step) -> &'static str {
+    match step {
+        Step::Ask { .. } => "ASK",
+        Step::Advance(_) => "ADV",
+        Step::Deliver(_) => "DLV",
+        Step::Lose(_) => "LOS",
+        Step::Repeat(_) => "REP",
+        Step::Stop(_) => "STP",
+    }
 }

@@ -73,7 +73,6 @@ fn examples(rt: &impl Print, text: &[u8]) {
 
 fn main(rt: HostRuntime) {
     let mut text = [0u8; 65536];
-    let input = streams::read_all(&rt, &mut text);
-    let n = input.length;
+    let n = streams::read_all(&rt, &mut text).unwrap_or_else(|failed| failed.length);
     examples(&rt, &text[..n]);
 }

@@ -2,9 +2,9 @@
 // How that ended goes to the file that the first argument names, where there is one.
 #![tactic(auto)]
 
-use lines::Form;
+use lines::Played;
 
 fn main(rt: HostRuntime) {
-    let ended = lines::show_input(&rt, Form::Played);
+    let ended = lines::show_input(&rt, &Played { from: None });
     streams::end_with(&rt, 1, ended);
 }

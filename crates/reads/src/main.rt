@@ -27,8 +27,7 @@ fn read_often(tape: &[u8]) -> u64 {
 
 fn main(rt: HostRuntime) -> io::Result<()> {
     let mut bytes = [0u8; 4097];
-    let input = streams::read_all(&rt, &mut bytes);
-    let n = input.length;
+    let n = streams::read_all(&rt, &mut bytes).unwrap_or_else(|failed| failed.length);
     let steps = read_often(&bytes[..n]);
     println!(rt; "{steps}")
 }

@@ -1,18 +1,43 @@
 // How a program ended. It writes that as a number to a file that an argument names.
-use crate::failure::fail;
-use crate::out::{Out, write_out};
+ghost use Rattle.std.specs.Prelude.{◌≡◌};
+ghost use Rattle.streams.specs.declared.ended.Failure.TheVariants.{Failed};
+
+use crate::input::ReadFailed;
+use crate::said::fail;
 use std::env::FillError;
 use std::io::Write;
 use std::rt::{Env, Files};
-use std::{fs, io, str};
+use std::{fmt, fs, io, str};
 
-#[derive(Clone, Copy)]
-pub enum Ended {
-    Well,
+// Why a program did not do what it was asked.
+#[derive(Clone, Copy, Debug, PartialEq, Eq)]
+pub enum Failure {
     // The tape or the text is refused.
     Refused,
     // Something could not be read or written.
     Failed,
+}
+
+impl From<ReadFailed> for Failure {
+    ghost from_gives = { λ _ failure. failure ≡ Failed };
+
+    fn from(_: ReadFailed) -> Failure {
+        Failure::Failed
+    }
+}
+
+impl From<fmt::Error> for Failure {
+    ghost from_gives = { λ _ failure. failure ≡ Failed };
+
+    fn from(_: fmt::Error) -> Failure {
+        Failure::Failed
+    }
+}
+
+impl From<Failure> for fmt::Error {
+    fn from(_: Failure) -> fmt::Error {
+        fmt::Error
+    }
 }
 
 // The file that a path names, made or emptied.
@@ -28,36 +53,23 @@ fn write_to(rt: &impl Files, path: &[u8], status: &[u8]) -> io::Result<()> {
     file.write_all(status)
 }
 
-fn write_status(rt: &(impl Env + Files + Eprint), argument: usize, status: &[u8]) {
+fn write_status(rt: &(impl Env + Files), argument: usize, status: &[u8]) -> io::Result<()> {
     let mut path = [0u8; 4096];
-    let written = match rt.arg(argument, &mut path) {
+    match rt.arg(argument, &mut path) {
         Err(FillError::NotPresent) => Ok(()),
         Err(FillError::TooLong) => Err(io::Error::from(io::ErrorKind::InvalidFilename)),
         Ok(n) => write_to(rt, &path[..n], status),
-    };
-    if let Err(why) = written {
-        fail(rt, "the status file", why);
     }
 }
 
 // Writes 1 where something is refused and 2 where it could not be read or written, if there is such an argument.
-pub fn end_with(rt: &(impl Env + Files + Eprint), argument: usize, ended: Ended) {
-    match ended {
-        Ended::Well => (),
-        Ended::Refused => write_status(rt, argument, b"1"),
-        Ended::Failed => write_status(rt, argument, b"2"),
-    }
-}
-
-// Writes what is collected, and gives how a program ends that would otherwise end so.
-pub fn written(rt: &(impl Print + Eprint), buffer: &[u8; 4096], out: Out, so: Ended) -> Ended {
-    let last = write_out(rt, buffer, out);
-    if last.failed { Ended::Failed } else { so }
-}
-
-// A text on standard error. Bytes that are no text are left out.
-pub fn say(rt: &impl Eprint, text: &[u8]) {
-    for part in text.utf8_chunks() {
-        let _ = rt.eprint(part.valid());
+pub fn end_with(rt: &(impl Env + Files + Eprint), argument: usize, ended: Result<(), Failure>) {
+    let status = match ended {
+        Ok(()) => return,
+        Err(Failure::Refused) => b"1",
+        Err(Failure::Failed) => b"2",
+    };
+    if let Err(why) = write_status(rt, argument, status) {
+        fail(rt, "the status file", why);
     }
 }

@@ -1,60 +1,40 @@
 // Standard input. A read that fails is told apart from the input's end, and is said at once, while its reason is known.
+ghost use Rattle.std.specs.Prelude.{IfErr, IfOk};
 ghost use Rattle.streams.specs.Counts.{IsPrefixLen};
 
-use crate::failure::fail;
+use crate::said::fail;
 use std::io;
 use std::io::Read;
 
-// How many bytes were read to the front of a buffer, and whether a read failed.
-#[derive(Clone, Copy)]
-pub struct Input {
+// A read failed: how many bytes stood at the front of the buffer before it.
+#[derive(Clone, Copy, Debug, PartialEq, Eq)]
+pub struct ReadFailed {
     pub length: usize,
-    pub failed: bool,
 }
 
-// One read; at the input's end it brings no bytes.
-pub fn read_some(rt: &(impl io::Input + Eprint), buffer: &mut [u8]) -> Input
-    ensures { IsPrefixLen result.length buffer.new }
+// One read, and how many bytes it brought to the front of the buffer: none at the input's end.
+pub fn read_some(rt: &(impl io::Input + Eprint), buffer: &mut [u8]) -> Result<usize, ReadFailed>
+    ensures read { IfOk result (λ n. IsPrefixLen n buffer.new) }
+    ensures failed { IfErr result (λ e. IsPrefixLen e.length buffer.new) }
 {
-    let mut reader = rt.reader();
-    match reader.read(buffer) {
-        Err(why) => {
-            fail(rt, "standard input", why);
-            Input {
-                length: 0,
-                failed: true,
-            }
-        }
-        Ok(n) => Input {
-            length: n,
-            failed: false,
-        },
-    }
+    rt.reader().read(buffer).map_err(|why| {
+        fail(rt, "standard input", why);
+        ReadFailed { length: 0 }
+    })
 }
 
-// Reads until the buffer is full or the input ends.
-pub fn read_all(rt: &(impl io::Input + Eprint), buffer: &mut [u8]) -> Input
-    ensures { IsPrefixLen result.length buffer.new }
+// Reads until the buffer is full or the input ends, and how many bytes that brought to its front.
+pub fn read_all(rt: &(impl io::Input + Eprint), buffer: &mut [u8]) -> Result<usize, ReadFailed>
+    ensures read { IfOk result (λ n. IsPrefixLen n buffer.new) }
+    ensures failed { IfErr result (λ e. IsPrefixLen e.length buffer.new) }
 {
-    let mut done = 0;
-    while done < buffer.len() {
-        let more = read_some(rt, &mut buffer[done..]);
-        if more.failed {
-            return Input {
-                length: done,
-                failed: true,
-            };
+    let mut length = 0;
+    while length < buffer.len() {
+        match read_some(rt, &mut buffer[length..]) {
+            Ok(0) => return Ok(length),
+            Ok(more) => length += more,
+            Err(_) => return Err(ReadFailed { length }),
         }
-        if more.length == 0 {
-            return Input {
-                length: done,
-                failed: false,
-            };
-        }
-        done += more.length;
     }
-    Input {
-        length: done,
-        failed: false,
-    }
+    Ok(length)
 }

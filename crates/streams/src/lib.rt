@@ -2,12 +2,13 @@
 #![tactic(auto)]
 
 mod ended;
-mod failure;
 mod input;
-mod out;
+mod output;
+mod said;
 mod words;
 
-pub use ended::{Ended, end_with, say, written};
-pub use input::{Input, read_all, read_some};
-pub use out::{Out, no_text, put, put_decimal, put_hex};
-pub use words::{Number, Word, argument, is_word, longer, no_word};
+pub use ended::{Failure, end_with};
+pub use input::{ReadFailed, read_all, read_some};
+pub use output::{Output, write_all};
+pub use said::say;
+pub use words::{Word, argument};

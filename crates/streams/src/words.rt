@@ -1,98 +1,72 @@
 // Words of a text or an argument, taken byte by byte: what a word says, and the number that it is.
-ghost use Rattle.std.specs.Prelude.{◌≤◌};
-
 use std::rt::Env;
 
-// The number that some digits are, up to 65,536 for all that is larger, which is over every bound; or that they are none.
-#[derive(Clone, Copy)]
-pub enum Number {
-    Is(u64),
-    None,
-}
-
-// A word: how many bytes it has, up to 9; the last eight of them, so that words of up to eight can be told apart; and its numbers.
-#[derive(Clone, Copy)]
+// A word: its first eight bytes, so that words of up to eight can be told apart; how many bytes it has; and the number that it is in
+// decimal and in hexadecimal digits, if it is one.
+#[derive(Clone, Copy, Debug, PartialEq, Eq)]
 pub struct Word {
-    pub length: usize,
-    pub bytes: u64,
-    pub decimal: Number,
-    pub hex: Number,
+    front: [u8; 8],
+    length: usize,
+    pub decimal: Option<u64>,
+    pub hex: Option<u64>,
 }
 
-pub fn no_word() -> Word {
-    Word {
-        length: 0,
-        bytes: 0,
-        decimal: Number::Is(0),
-        hex: Number::Is(0),
+// A number with one digit more, up to 65,536 for all that is larger, which is over every bound.
+fn with_digit(number: Option<u64>, base: u64, digit: Option<u32>) -> Option<u64> {
+    let shifted = number?.saturating_mul(base);
+    Some(shifted.saturating_add(u64::from(digit?)).min(65536))
+}
+
+impl Word {
+    // A word of no bytes.
+    pub fn new() -> Self {
+        Word {
+            front: [0; 8],
+            length: 0,
+            decimal: Some(0),
+            hex: Some(0),
+        }
+    }
+
+    fn of(text: &[u8]) -> Self {
+        text.iter()
+            .fold(Word::new(), |word, byte| word.with_byte(*byte))
+    }
+
+    pub fn is_empty(self) -> bool {
+        self.length == 0
+    }
+
+    // The word with one byte more.
+    pub fn with_byte(mut self, byte: u8) -> Self {
+        let length = self.length;
+        if let Some(place) = self.front.get_mut(length) {
+            *place = byte;
+        }
+        let character = char::from(byte);
+        self.length = length.saturating_add(1);
+        self.decimal = with_digit(self.decimal, 10, character.to_digit(10));
+        self.hex = with_digit(self.hex, 16, character.to_digit(16));
+        self
+    }
+
+    // Whether it is a text of up to eight bytes.
+    pub fn is(self, text: &str) -> bool {
+        self == Word::of(text.as_bytes())
     }
 }
 
-// A digit's value, 16 for a byte that is none.
-fn digit(byte: u8) -> u64
-    ensures { result ≤ 16 }
-{
-    match byte {
-        b'0'..=b'9' => (byte - b'0') as u64,
-        b'a'..=b'f' => (byte - b'a' + 10) as u64,
-        b'A'..=b'F' => (byte - b'A' + 10) as u64,
-        _ => 16,
+impl Default for Word {
+    fn default() -> Self {
+        Word::new()
     }
 }
 
-fn capped(value: u64) -> u64
-    ensures { result ≤ 65536 }
-{
-    if value < 65536 { value } else { 65536 }
-}
-
-// A number with one digit more.
-fn with_digit(number: Number, base: u64, byte: u8) -> Number
-    requires { base ≤ 16 }
-{
-    let Number::Is(value) = number else {
-        return Number::None;
-    };
-    let d = digit(byte);
-    if base <= d {
-        return Number::None;
-    }
-    Number::Is(capped(base * capped(value) + d))
-}
-
-// A word with one byte more.
-pub fn longer(word: Word, byte: u8) -> Word {
-    let decimal = word.decimal;
-    let hex = word.hex;
-    Word {
-        length: if word.length < 9 { word.length + 1 } else { 9 },
-        bytes: (word.bytes << 8) | byte as u64,
-        decimal: with_digit(decimal, 10, byte),
-        hex: with_digit(hex, 16, byte),
-    }
-}
-
-fn word_of(text: &[u8]) -> Word {
-    let mut word = no_word();
-    let mut i = 0;
-    while i < text.len() {
-        word = longer(word, text[i]);
-        i += 1;
-    }
-    word
-}
-
-// Whether a word is a text of up to eight bytes.
-pub fn is_word(word: Word, text: &[u8]) -> bool {
-    let wanted = word_of(text);
-    (word.length == wanted.length) & (word.bytes == wanted.bytes)
-}
-
-// Argument i as a word: one with no bytes where it is missing, empty, or longer than any that a program takes.
-pub fn argument(rt: &impl Env, i: usize) -> Word {
+// Argument i as a word, if it is there, is not empty, and is no longer than any that a program takes.
+pub fn argument(rt: &impl Env, i: usize) -> Option<Word> {
     let mut text = [0u8; 16];
     match rt.arg(i, &mut text) {
-        Ok(n) => word_of(&text[..n]),
-        Err(_) => no_word(),
+        Ok(0) | Err(_) => None,
+        Ok(n) => Some(Word::of(&text[..n])),
     }
 }

@@ -7,38 +7,35 @@ mod steps;
 mod text;
 mod wrong;
 
-use streams::Ended;
+use streams::Failure;
 use text::{Fault, Text};
 
-// A text that was read: its first boxes, how many words of the row its steps take, and how reading it ended.
+// A text that was read: its first boxes, and how many words of the row its steps take.
 #[derive(Clone, Copy)]
 pub struct Taken {
     pub first: u16,
     pub steps: usize,
-    pub ended: Ended,
 }
 
-fn ended_by(rt: &impl Eprint, text: Text) -> Ended {
+fn ended_by(rt: &impl Eprint, text: Text) -> Result<(), Failure> {
     if text.failed {
-        return Ended::Failed;
+        return Err(Failure::Failed);
     }
-    let fault = text.fault;
-    match fault {
-        Fault::None => Ended::Well,
+    match text.fault {
+        Fault::None => Ok(()),
         Fault::Wrong(wrong) => {
             wrong::say_line(rt, text.line, wrong);
-            Ended::Refused
+            Err(Failure::Refused)
         }
     }
 }
 
 // The row has one place more than a tape of 4,096 bytes has steps, so that a longer one is refused by 11 when it is written.
-pub fn read_text(rt: &(impl Input + Eprint), row: &mut [u64; 5459]) -> Taken {
+pub fn read_text(rt: &(impl Input + Eprint), row: &mut [u64; 5459]) -> Result<Taken, Failure> {
     let text = text::take_text(rt, row);
-    let ended = ended_by(rt, text);
-    Taken {
+    ended_by(rt, text)?;
+    Ok(Taken {
         first: text.first,
         steps: text.steps,
-        ended: ended,
-    }
+    })
 }

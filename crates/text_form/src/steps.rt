@@ -3,7 +3,7 @@ ghost use Rattle.std.specs.Prelude.{◌≤◌};
 
 use crate::encoded::{Encoded, encode};
 use crate::wrong::Wrong;
-use streams::{Number, Word, is_word};
+use streams::Word;
 use tape::Fields;
 
 // The words of a line: the first `count` of eight places, one more than any line has.
@@ -39,11 +39,11 @@ enum Parsed {
 
 fn word_at(words: Words, i: usize) -> Word {
     let row = words.words;
-    if i < 8 { row[i] } else { streams::no_word() }
+    if i < 8 { row[i] } else { Word::new() }
 }
 
-fn within(number: Number, no_number: Wrong, most: u64, over: Wrong) -> Field {
-    let Number::Is(value) = number else {
+fn within(number: Option<u64>, no_number: Wrong, most: u64, over: Wrong) -> Field {
+    let Some(value) = number else {
         return Field::Wrong(no_number);
     };
     if most < value {
@@ -141,22 +141,22 @@ fn step_at(words: Words, at: usize) -> Parsed
     requires { at ≤ 2 }
 {
     let name = word_at(words, at);
-    if is_word(name, b"ask") {
+    if name.is("ask") {
         return ask_at(words, at);
     }
-    if is_word(name, b"advance") {
+    if name.is("advance") {
         return one_at(words, at, 1, 7, Wrong::TabletOver);
     }
-    if is_word(name, b"deliver") {
+    if name.is("deliver") {
         return one_at(words, at, 2, 127, Wrong::SlotOver);
     }
-    if is_word(name, b"lose") {
+    if name.is("lose") {
         return one_at(words, at, 3, 127, Wrong::SlotOver);
     }
-    if is_word(name, b"repeat") {
+    if name.is("repeat") {
         return one_at(words, at, 4, 127, Wrong::SlotOver);
     }
-    if is_word(name, b"stop") {
+    if name.is("stop") {
         return one_at(words, at, 5, 23, Wrong::DeviceOver);
     }
     Parsed::Wrong(Wrong::NoStep)
@@ -175,7 +175,7 @@ fn steps_line(parsed: Parsed, times: u64) -> Line {
 fn times_line(words: Words) -> Line {
     let word = word_at(words, 0);
     let number = word.decimal;
-    let Number::Is(times) = number else {
+    let Some(times) = number else {
         return Line::Wrong(Wrong::NoDecimal);
     };
     if words.count < 3 {
@@ -202,11 +202,11 @@ pub(crate) fn line_of(words: Words) -> Line {
         return Line::Nothing;
     }
     let first = word_at(words, 0);
-    if is_word(first, b"first") {
+    if first.is("first") {
         return first_line(words);
     }
     let second = word_at(words, 1);
-    if is_word(second, b"times") {
+    if second.is("times") {
         return times_line(words);
     }
     steps_line(step_at(words, 0), 1)

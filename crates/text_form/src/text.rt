@@ -26,7 +26,7 @@ pub(crate) struct Text {
 }
 
 fn no_words() -> Words {
-    let none = streams::no_word();
+    let none = Word::new();
     Words {
         words: [none; 8],
         count: 0,
@@ -34,7 +34,7 @@ fn no_words() -> Words {
 }
 
 fn no_text() -> Text {
-    let none = streams::no_word();
+    let none = Word::new();
     let words = no_words();
     Text {
         line: 1,
@@ -80,11 +80,11 @@ fn with_word(mut words: Words, word: Word) -> Words {
 
 fn end_word(mut text: Text) -> Text {
     let word = text.word;
-    if word.length == 0 {
+    if word.is_empty() {
         return text;
     }
     let words = with_word(text.words, word);
-    let none = streams::no_word();
+    let none = Word::new();
     text.words = words;
     text.word = none;
     text
@@ -152,7 +152,7 @@ fn with_byte(mut text: Text, byte: u8) -> Text {
         }
         b' ' | b'\t' | b'\r' => end_word(text),
         _ => {
-            let word = streams::longer(text.word, byte);
+            let word = text.word.with_byte(byte);
             text.word = word;
             text
         }
@@ -182,13 +182,11 @@ fn take_bytes(start: Text, row: &mut [u64; 5459], bytes: &[u8]) -> Text {
 // The text with the bytes of one read.
 fn take_some(rt: &(impl Input + Eprint), mut text: Text, row: &mut [u64; 5459]) -> Text {
     let mut buffer = [0u8; 4096];
-    let input = streams::read_some(rt, &mut buffer);
-    if input.failed {
+    let Ok(n) = streams::read_some(rt, &mut buffer) else {
         text.ended = true;
         text.failed = true;
         return text;
-    }
-    let n = input.length;
+    };
     if n == 0 {
         text.ended = true;
         return end_line(text, row);

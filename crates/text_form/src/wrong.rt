@@ -1,4 +1,5 @@
 // What may be wrong with a line of a text, and how that is said.
+use std::fmt;
 use streams::say;
 
 #[derive(Clone, Copy)]
@@ -19,29 +20,28 @@ pub(crate) enum Wrong {
     FirstAgain,
 }
 
-fn say_wrong(rt: &impl Eprint, wrong: Wrong) {
-    match wrong {
-        Wrong::NoStep => say(rt, b"no such step\n"),
-        Wrong::StepMissing => say(rt, b"a step is missing\n"),
-        Wrong::NumberMissing => say(rt, b"a number is missing\n"),
-        Wrong::NoDecimal => say(rt, b"a number is not in decimal digits\n"),
-        Wrong::NoHex => say(rt, b"a set is not in hexadecimal digits\n"),
-        Wrong::TabletOver => say(rt, b"tablet over 7\n"),
-        Wrong::NotesOver => say(rt, b"own notes over ffff\n"),
-        Wrong::BoxesOver => say(rt, b"a set of boxes over ffff\n"),
-        Wrong::SlotOver => say(rt, b"slot over 127\n"),
-        Wrong::DeviceOver => say(rt, b"device over 23\n"),
-        Wrong::Behind => say(rt, b"something stands behind the step\n"),
-        Wrong::BehindFirst => say(rt, b"something stands behind the first boxes\n"),
-        Wrong::NotFirst => say(rt, b"the first boxes come first\n"),
-        Wrong::FirstAgain => say(rt, b"the first boxes stand in an earlier line\n"),
+impl fmt::Display for Wrong {
+    fn fmt<W: fmt::Write>(&self, f: &mut fmt::Formatter<W>) -> fmt::Result {
+        f.write_str(match self {
+            Wrong::NoStep => "no such step",
+            Wrong::StepMissing => "a step is missing",
+            Wrong::NumberMissing => "a number is missing",
+            Wrong::NoDecimal => "a number is not in decimal digits",
+            Wrong::NoHex => "a set is not in hexadecimal digits",
+            Wrong::TabletOver => "tablet over 7",
+            Wrong::NotesOver => "own notes over ffff",
+            Wrong::BoxesOver => "a set of boxes over ffff",
+            Wrong::SlotOver => "slot over 127",
+            Wrong::DeviceOver => "device over 23",
+            Wrong::Behind => "something stands behind the step",
+            Wrong::BehindFirst => "something stands behind the first boxes",
+            Wrong::NotFirst => "the first boxes come first",
+            Wrong::FirstAgain => "the first boxes stand in an earlier line",
+        })
     }
 }
 
 // A bad line: its number, and what is wrong with it.
 pub(crate) fn say_line(rt: &impl Eprint, line: u64, wrong: Wrong) {
-    say(rt, b"line ");
-    let _ = rt.eprint(line);
-    say(rt, b": ");
-    say_wrong(rt, wrong);
+    say(rt, format_args!("line {line}: {wrong}"));
 }

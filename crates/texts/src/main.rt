@@ -2,63 +2,54 @@
 // How that ended goes to the file that the second argument names, where there is one.
 #![tactic(auto)]
 
-use lines::Form;
-use streams::{Ended, Out, Word};
+use lines::Listed;
+use std::rt::Env;
+use streams::Failure;
 use tape::Written;
 
 // The tape of first boxes and step words, written whole or not at all.
-fn write_words(rt: &(impl Print + Eprint), first: u16, words: &[u64]) -> Ended {
+fn write_words(rt: &(impl Print + Eprint), first: u16, words: &[u64]) -> Result<(), Failure> {
     let mut tape = [0u8; 4096];
     match tape::write_tape(first, words, &mut tape) {
         Written::Refused(number) => {
             lines::say_refused(rt, number);
-            Ended::Refused
+            Err(Failure::Refused)
         }
-        Written::Bytes(length) => {
-            let out = Out {
-                end: length,
-                failed: false,
-            };
-            streams::written(rt, &tape, out, Ended::Well)
-        }
+        Written::Bytes(length) => streams::write_all(rt, &tape[..length]),
     }
 }
 
 // The tape of the front of a row; no text puts more steps there than the row holds.
-fn write_front(rt: &(impl Print + Eprint), first: u16, row: &[u64], steps: usize) -> Ended {
+fn write_front(
+    rt: &(impl Print + Eprint),
+    first: u16,
+    row: &[u64],
+    steps: usize,
+) -> Result<(), Failure> {
     if row.len() < steps {
-        return Ended::Failed;
+        return Err(Failure::Failed);
     }
     write_words(rt, first, &row[..steps])
 }
 
-fn write_row(rt: &(impl Print + Eprint), first: u16, row: &[u64; 5459], steps: usize) -> Ended {
-    write_front(rt, first, row, steps)
-}
-
-fn write_text(rt: &(impl Input + Print + Eprint)) -> Ended {
+fn write_text(rt: &(impl Input + Print + Eprint)) -> Result<(), Failure> {
     let mut row = [0u64; 5459];
-    let taken = text_form::read_text(rt, &mut row);
-    let ended = taken.ended;
-    match ended {
-        Ended::Well => write_row(rt, taken.first, &row, taken.steps),
-        Ended::Refused => Ended::Refused,
-        Ended::Failed => Ended::Failed,
-    }
+    let taken = text_form::read_text(rt, &mut row)?;
+    write_front(rt, taken.first, &row, taken.steps)
 }
 
-fn ended_by(rt: &(impl Input + Print + Eprint), command: Word) -> Ended {
-    if streams::is_word(command, b"list") {
-        return lines::show_input(rt, Form::Listed);
+fn run(rt: &(impl Input + Print + Eprint + Env)) -> Result<(), Failure> {
+    match streams::argument(rt, 1) {
+        Some(command) if command.is("list") => lines::show_input(rt, &Listed),
+        Some(command) if command.is("write") => write_text(rt),
+        _ => {
+            streams::say(rt, "list or write, and where the status goes");
+            Err(Failure::Failed)
+        }
     }
-    if streams::is_word(command, b"write") {
-        return write_text(rt);
-    }
-    streams::say(rt, b"list or write, and where the status goes\n");
-    Ended::Failed
 }
 
 fn main(rt: HostRuntime) {
-    let ended = ended_by(&rt, streams::argument(&rt, 1));
+    let ended = run(&rt);
     streams::end_with(&rt, 2, ended);
 }

@@ -2,8 +2,8 @@
 use Rattle.std.proofs.Common.{length, ◌-◌, ◌≡◌, ◌≤◌}
 use Rattle.streams.proofs.input.read_all.Given as goal
 
-abbrev pub invariant-loop-done : goal.invariant-loop-done
-invariant-loop-done g l = (l.done ≤ length l.buffer) × (length l.buffer ≡ length l.initial.buffer)
+abbrev pub invariant-loop-length : goal.invariant-loop-length
+invariant-loop-length g l = (l.length ≤ length l.buffer) × (length l.buffer ≡ length l.initial.buffer)
 
-abbrev pub decreases-loop-done : goal.decreases-loop-done
-decreases-loop-done g l = length l.buffer - l.done
+abbrev pub decreases-loop-length : goal.decreases-loop-length
+decreases-loop-length g l = length l.buffer - l.length

@@ -1,0 +1,68 @@
+// Standard output, in blocks of 4,096 bytes: a full block is written out and begun anew, so nothing is left out and no line is too long.
+ghost use Rattle.std.specs.Prelude.{◌≡◌, IfErr, OnOk};
+ghost use Rattle.arrayvec.specs.ArrayVec.{array_vec_len};
+ghost use Rattle.streams.specs.declared.ended.Failure.TheVariants.{Failed};
+
+use crate::ended::Failure;
+use crate::said::fail;
+use arrayvec::ArrayVec;
+use std::fmt;
+
+// Bytes on standard output, not collected. A failure is said at once, while its reason is known.
+pub fn write_all(rt: &(impl Print + Eprint), bytes: &[u8]) -> Result<(), Failure>
+    ensures { IfErr result (λ failure. failure ≡ Failed) }
+{
+    rt.write_all(bytes).map_err(|why| {
+        fail(rt, "standard output", why);
+        Failure::Failed
+    })
+}
+
+// Text on its way to standard output. A failed write is said there, and handed on as an `Err`, so that nothing more is written.
+#[derive(Drop)]
+pub struct Output<'a, R> {
+    rt: &'a R,
+    block: ArrayVec<u8, 4096>,
+}
+
+impl<'a, R: Print + Eprint> Output<'a, R> {
+    pub fn new(rt: &'a R) -> Self {
+        Output {
+            rt,
+            block: ArrayVec::new(),
+        }
+    }
+
+    fn write_block(&mut self) -> Result<(), Failure>
+        ensures emptied { OnOk result (array_vec_len self.new.block ≡ 0) }
+        ensures failed { IfErr result (λ failure. failure ≡ Failed) }
+    {
+        write_all(self.rt, self.block.as_slice())?;
+        self.block.clear();
+        Ok(())
+    }
+
+    fn put(&mut self, byte: u8) -> Result<(), Failure> {
+        if self.block.is_full() {
+            self.write_block()?;
+        }
+        self.block.push(byte);
+        Ok(())
+    }
+
+    // Writes what is collected.
+    pub fn end(mut self) -> Result<(), Failure>
+        ensures { IfErr result (λ failure. failure ≡ Failed) }
+    {
+        self.write_block()
+    }
+}
+
+impl<R: Print + Eprint> fmt::Write for Output<'_, R> {
+    fn write_str(&mut self, text: &str) -> fmt::Result {
+        for byte in text.bytes() {
+            self.put(byte)?;
+        }
+        Ok(())
+    }
+}
