@@ -56,6 +56,12 @@ impl Word {
     }
 }
 
+impl Default for Word {
+    fn default() -> Self {
+        Word::new()
+    }
+}
+
 // Argument i as a word, if it is there, is not empty, and is no longer than any that a program takes.
 pub fn argument(rt: &impl Env, i: usize) -> Option<Word> {
     let mut text = [0u8; 16];
