@@ -38,7 +38,7 @@ pub enum Written {
 }
 
 // The kind of a step word and the numbers in its fields, in the order of the tape; 0 for a field that the kind has not.
-#[derive(Clone, Copy)]
+#[derive(Clone, Copy, Debug, PartialEq, Eq)]
 pub struct Fields {
     pub kind: u64,
     pub first: u64,
