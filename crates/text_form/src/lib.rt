@@ -3,39 +3,37 @@
 #![tactic(auto)]
 
 mod encoded;
+mod fields;
 mod steps;
 mod text;
 mod wrong;
 
+use arrayvec::ArrayVec;
 use streams::Failure;
-use text::{Fault, Text};
-
-// A text that was read: its first boxes, and how many words of the row its steps take.
-#[derive(Clone, Copy)]
-pub struct Taken {
-    pub first: u16,
-    pub steps: usize,
-}
-
-fn ended_by(rt: &impl Eprint, text: Text) -> Result<(), Failure> {
-    if text.failed {
-        return Err(Failure::Failed);
-    }
-    match text.fault {
-        Fault::None => Ok(()),
-        Fault::Wrong(wrong) => {
-            wrong::say_line(rt, text.line, wrong);
-            Err(Failure::Refused)
-        }
-    }
-}
+use text::Text;
+use wrong::BadLine;
 
 // The row has one place more than a tape of 4,096 bytes has steps, so that a longer one is refused by 11 when it is written.
-pub fn read_text(rt: &(impl Input + Eprint), row: &mut [u64; 5459]) -> Result<Taken, Failure> {
-    let text = text::take_text(rt, row);
-    ended_by(rt, text)?;
-    Ok(Taken {
-        first: text.first,
-        steps: text.steps,
-    })
+pub type StepWords = ArrayVec<u64, 5459>;
+
+// A bad line, said.
+fn refused(rt: &impl Eprint, bad: BadLine) -> Failure {
+    streams::say(rt, bad);
+    Failure::Refused
+}
+
+// The first boxes of the text on standard input, 0 where it has none; the words of its steps go into the row, behind those that are there.
+pub fn read_text(rt: &(impl Input + Eprint), steps: &mut StepWords) -> Result<u16, Failure> {
+    let mut text = Text::new(steps);
+    let mut buffer = [0u8; 4096];
+    // No input is that long.
+    for _ in 0..u64::MAX {
+        let length = streams::read_some(rt, &mut buffer)?;
+        if length == 0 {
+            break;
+        }
+        text.take(&buffer[..length])
+            .map_err(|bad| refused(rt, bad))?;
+    }
+    text.end().map_err(|bad| refused(rt, bad))
 }

@@ -1,6 +1,6 @@
 // What may be wrong with a line of a text, and how that is said.
+use crate::fields::Field;
 use std::fmt;
-use streams::say;
 
 #[derive(Clone, Copy)]
 pub(crate) enum Wrong {
@@ -9,15 +9,18 @@ pub(crate) enum Wrong {
     NumberMissing,
     NoDecimal,
     NoHex,
-    TabletOver,
-    NotesOver,
-    BoxesOver,
-    SlotOver,
-    DeviceOver,
+    Over(Field),
     Behind,
     BehindFirst,
     NotFirst,
     FirstAgain,
+}
+
+// A bad line: its number, and what is wrong with it.
+#[derive(Clone, Copy)]
+pub(crate) struct BadLine {
+    pub(crate) line: u64,
+    pub(crate) wrong: Wrong,
 }
 
 impl fmt::Display for Wrong {
@@ -28,11 +31,11 @@ impl fmt::Display for Wrong {
             Wrong::NumberMissing => "a number is missing",
             Wrong::NoDecimal => "a number is not in decimal digits",
             Wrong::NoHex => "a set is not in hexadecimal digits",
-            Wrong::TabletOver => "tablet over 7",
-            Wrong::NotesOver => "own notes over ffff",
-            Wrong::BoxesOver => "a set of boxes over ffff",
-            Wrong::SlotOver => "slot over 127",
-            Wrong::DeviceOver => "device over 23",
+            Wrong::Over(Field::Tablet) => "tablet over 7",
+            Wrong::Over(Field::Notes) => "own notes over ffff",
+            Wrong::Over(Field::Boxes) => "a set of boxes over ffff",
+            Wrong::Over(Field::Slot) => "slot over 127",
+            Wrong::Over(Field::Device) => "device over 23",
             Wrong::Behind => "something stands behind the step",
             Wrong::BehindFirst => "something stands behind the first boxes",
             Wrong::NotFirst => "the first boxes come first",
@@ -41,7 +44,8 @@ impl fmt::Display for Wrong {
     }
 }
 
-// A bad line: its number, and what is wrong with it.
-pub(crate) fn say_line(rt: &impl Eprint, line: u64, wrong: Wrong) {
-    say(rt, format_args!("line {line}: {wrong}"));
+impl fmt::Display for BadLine {
+    fn fmt<W: fmt::Write>(&self, f: &mut fmt::Formatter<W>) -> fmt::Result {
+        write!(f, "line {}: {}", self.line, self.wrong)
+    }
 }

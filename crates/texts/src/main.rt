@@ -6,9 +6,10 @@ use lines::Listed;
 use std::rt::Env;
 use streams::Failure;
 use tape::Written;
+use text_form::StepWords;
 
 // The tape of first boxes and step words, written whole or not at all.
-fn write_words(rt: &(impl Print + Eprint), first: u16, words: &[u64]) -> Result<(), Failure> {
+fn write_tape(rt: &(impl Print + Eprint), first: u16, words: &[u64]) -> Result<(), Failure> {
     let mut tape = [0u8; 4096];
     match tape::write_tape(first, words, &mut tape) {
         Written::Refused(number) => {
@@ -19,23 +20,10 @@ fn write_words(rt: &(impl Print + Eprint), first: u16, words: &[u64]) -> Result<
     }
 }
 
-// The tape of the front of a row; no text puts more steps there than the row holds.
-fn write_front(
-    rt: &(impl Print + Eprint),
-    first: u16,
-    row: &[u64],
-    steps: usize,
-) -> Result<(), Failure> {
-    if row.len() < steps {
-        return Err(Failure::Failed);
-    }
-    write_words(rt, first, &row[..steps])
-}
-
 fn write_text(rt: &(impl Input + Print + Eprint)) -> Result<(), Failure> {
-    let mut row = [0u64; 5459];
-    let taken = text_form::read_text(rt, &mut row)?;
-    write_front(rt, taken.first, &row, taken.steps)
+    let mut steps = StepWords::new();
+    let first = text_form::read_text(rt, &mut steps)?;
+    write_tape(rt, first, &steps)
 }
 
 fn run(rt: &(impl Input + Print + Eprint + Env)) -> Result<(), Failure> {
