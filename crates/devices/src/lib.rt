@@ -7,21 +7,21 @@ ghost use Rattle.devices.specs.Effects.{number_of, kept_after, only, box_of, add
 
 use books::{Book, Config, Listed, Notes};
 
-#[derive(Clone, Copy)]
+#[derive(Clone, Copy, PartialEq, Eq)]
 pub struct Contents {
     pub v: Book,
     pub candidates: Notes,
     pub t: u8,
 }
 
-#[derive(Clone, Copy)]
+#[derive(Clone, Copy, PartialEq, Eq)]
 pub enum Floor {
     Unset,
     Set(Book),
 }
 
 // What an asking tablet saved when its round began, the boxes that answered, and the floor.
-#[derive(Clone, Copy)]
+#[derive(Clone, Copy, PartialEq, Eq)]
 pub struct Asking {
     pub config: Config,
     pub t: u8,
@@ -30,19 +30,19 @@ pub struct Asking {
     pub floor: Floor,
 }
 
-#[derive(Clone, Copy)]
+#[derive(Clone, Copy, PartialEq, Eq)]
 pub enum Phase {
     Idle,
     Asks(Asking),
 }
 
-#[derive(Clone, Copy)]
+#[derive(Clone, Copy, PartialEq, Eq)]
 pub struct Tablet {
     pub round: u16,
     pub phase: Phase,
 }
 
-#[derive(Clone, Copy)]
+#[derive(Clone, Copy, PartialEq, Eq)]
 pub struct Letter {
     pub from: u8,
     pub to: u8,
@@ -50,7 +50,7 @@ pub struct Letter {
     pub contents: Contents,
 }
 
-#[derive(Clone, Copy)]
+#[derive(Clone, Copy, PartialEq, Eq)]
 pub struct Notice {
     pub from: u8,
     pub to: u8,
@@ -58,7 +58,7 @@ pub struct Notice {
 }
 
 // What a slot holds.
-#[derive(Clone, Copy)]
+#[derive(Clone, Copy, PartialEq, Eq)]
 pub enum Message {
     Empty,
     Request(Letter),

@@ -11,13 +11,13 @@ ghost use Rattle.state.specs.State.{fresh, StartPromise, names_listed, all_diffe
 use books::{Book, Config, Listed};
 use devices::{Contents, Letter, Message, Outcome, Phase, Tablet};
 
-#[derive(Clone, Copy)]
+#[derive(Clone, Copy, PartialEq, Eq)]
 pub struct Slot {
     pub message: Message,
 }
 
 // The run keeps the first boxes too: they are never changed.
-#[derive(Clone, Copy)]
+#[derive(Clone, Copy, PartialEq, Eq)]
 pub struct Run {
     pub devices: [Contents; 24],
     pub tablets: [Tablet; 8],
