@@ -10,7 +10,12 @@ use std::array;
 // The first boxes, as where nothing else is given: 0, 1 and 2.
 const FIRST: u16 = 0x7;
 
-// A value and its place among those of its kind, counted round.
+const FRESH: Config = Config {
+    added: FIRST,
+    removed: 0,
+};
+
+// A value that is given, and its place among those of its kind, counted round.
 #[derive(Clone, Copy)]
 struct Placed<T> {
     place: usize,
@@ -155,7 +160,7 @@ fn letter([_, from, to, round, t, _]: [u64; 6]) -> Letter {
         from: byte(from),
         to: byte(to),
         round: two_bytes(round),
-        contents: contents(pair(0x7, 0), t),
+        contents: contents(FRESH, t),
     }
 }
 

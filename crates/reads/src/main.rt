@@ -15,20 +15,16 @@ fn steps_in(read: Read) -> u64 {
 fn read_often(tape: &[u8]) -> u64 {
     // A step takes 6 bits at least, so a tape of 4,096 bytes has no more than 5,458.
     let mut row = [0u64; 5458];
-    let mut sum: u64 = 0;
-    let mut i: usize = 0;
-    while i < 1000 {
-        let read = tape::read_tape(tape, &mut row);
-        sum = std::num::wrapping_add_u64(sum, steps_in(read));
-        i += 1;
+    let mut steps: u64 = 0;
+    for _ in 0..1000 {
+        steps = steps.wrapping_add(steps_in(tape::read_tape(tape, &mut row)));
     }
-    sum
+    steps
 }
 
 fn main(rt: HostRuntime) -> io::Result<()> {
     let mut bytes = [0u8; 4097];
     let input = streams::read_all(&rt, &mut bytes);
-    let n = input.length;
-    let steps = read_often(&bytes[..n]);
+    let steps = read_often(&bytes[..input.length]);
     println!(rt; "{steps}")
 }
