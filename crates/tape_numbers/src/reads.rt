@@ -4,7 +4,7 @@ ghost use Rattle.std.specs.Prelude.{◌≤◌, length};
 
 use crate::said::{Bytes, Example, lent};
 use std::io;
-use tape::Read;
+use tape::{Read, Recorded};
 
 // A tape, and how many places of a row are lent to read it.
 #[derive(Clone, Copy)]
@@ -58,9 +58,7 @@ fn read_into(rt: &impl Print, tape: &[u8], row: &mut [u64], places: usize) -> io
     let places = lent(places, row);
     print!(rt; " into {places} places: ")?;
     match tape::read_tape(tape, &mut row[..places]) {
-        Read::Steps(recorded) => {
-            let first = recorded.first;
-            let steps = recorded.steps;
+        Read::Steps(Recorded { first, steps }) => {
             print!(rt; "0 first {first:04x} steps {steps}")?;
         }
         Read::Refused(number) => print!(rt; "{number}")?,

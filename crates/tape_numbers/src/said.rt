@@ -17,8 +17,7 @@ pub(crate) struct Group<'a, E> {
 // Where a line cannot be printed, the next is tried all the same.
 pub(crate) fn show_all<E: Example>(rt: &impl Print, groups: &[Group<'_, E>]) {
     for group in groups {
-        let about = group.about;
-        let _ = println!(rt; "{about}");
+        let _ = println!(rt; "{}", group.about);
         for example in group.examples {
             let _ = example.show(rt);
         }
