@@ -6,7 +6,7 @@ ghost use Rattle.books.specs.Books.{notes_part, own_notes, no_book, notes_inside
 ghost use Rattle.books.specs.Queried.{place_of, outside, joined_with, every_majority, asked_boxes, stays};
 
 // Notes as a set of 128: note n has weight 2^n in `low`, from 64 on 2^(n - 64) in `high`. Only this crate takes them apart.
-#[derive(Clone, Copy)]
+#[derive(Clone, Copy, PartialEq, Eq)]
 pub struct Notes {
     low: u64,
     high: u64,
@@ -15,20 +15,20 @@ pub struct Notes {
 // How many parts of 64 notes there are.
 pub const NOTE_PARTS: usize = 2;
 
-#[derive(Clone, Copy)]
+#[derive(Clone, Copy, PartialEq, Eq)]
 pub struct Config {
     pub added: u16,
     pub removed: u16,
 }
 
-#[derive(Clone, Copy)]
+#[derive(Clone, Copy, PartialEq, Eq)]
 pub struct Book {
     pub notes: Notes,
     pub config: Config,
 }
 
 // The list of changes: the first `count` of six places.
-#[derive(Clone, Copy)]
+#[derive(Clone, Copy, PartialEq, Eq)]
 pub struct Listed {
     pub changes: [Config; 6],
     pub count: usize,

@@ -8,7 +8,7 @@ ghost use Rattle.devices.specs.Effects.{number_of, kept_after, only, box_of, add
 use books::{Book, Config, Listed, Notes};
 use refusals::Refusal;
 
-#[derive(Clone, Copy)]
+#[derive(Clone, Copy, PartialEq, Eq)]
 pub struct Contents {
     pub v: Book,
     pub candidates: Notes,
@@ -16,7 +16,7 @@ pub struct Contents {
 }
 
 // What an asking tablet saved when its round began, the boxes that answered, and the floor, where it is set.
-#[derive(Clone, Copy)]
+#[derive(Clone, Copy, PartialEq, Eq)]
 pub struct Asking {
     pub config: Config,
     pub t: u8,
@@ -25,19 +25,19 @@ pub struct Asking {
     pub floor: Option<Book>,
 }
 
-#[derive(Clone, Copy)]
+#[derive(Clone, Copy, PartialEq, Eq)]
 pub enum Phase {
     Idle,
     Asks(Asking),
 }
 
-#[derive(Clone, Copy)]
+#[derive(Clone, Copy, PartialEq, Eq)]
 pub struct Tablet {
     pub round: u16,
     pub phase: Phase,
 }
 
-#[derive(Clone, Copy)]
+#[derive(Clone, Copy, PartialEq, Eq)]
 pub struct Letter {
     pub from: u8,
     pub to: u8,
@@ -45,7 +45,7 @@ pub struct Letter {
     pub contents: Contents,
 }
 
-#[derive(Clone, Copy)]
+#[derive(Clone, Copy, PartialEq, Eq)]
 pub struct Notice {
     pub from: u8,
     pub to: u8,
@@ -53,7 +53,7 @@ pub struct Notice {
 }
 
 // What a slot holds.
-#[derive(Clone, Copy)]
+#[derive(Clone, Copy, PartialEq, Eq)]
 pub enum Message {
     Empty,
     Request(Letter),

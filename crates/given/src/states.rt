@@ -1,95 +1,107 @@
 // The state that the parts of an example give: a fresh run with what they name changed.
-use crate::text::{Part, byte, two_bytes};
-use books::{Book, Config, Listed, Notes};
+ghost use Rattle.std.specs.Prelude.{◌<◌, length};
+
+use crate::text::Part;
+use books::{Book, Config, Listed};
 use devices::{Asking, Contents, Letter, Message, Notice, Phase, Tablet};
 use state::{Run, Slot};
+use std::array;
 
-// The place of each part among those that an example gives.
-const LISTED: usize = 0;
+// The first boxes, as where nothing else is given: 0, 1 and 2.
+const FIRST: u16 = 0x7;
 
-const CHANGE: usize = 1;
+const FRESH: Config = Config {
+    added: FIRST,
+    removed: 0,
+};
 
-const KEPT: usize = 2;
+// A value that is given, and its place among those of its kind, counted round.
+#[derive(Clone, Copy)]
+struct Placed<T> {
+    place: usize,
+    value: T,
+}
 
-const STOPPED: usize = 3;
-
-const DEVICE: usize = 4;
-
-const TABLET: usize = 5;
-
-const FREE: usize = 6;
-
-const MESSAGE: usize = 7;
-
-pub const PARTS: usize = 8;
-
-// Names as letters, 8 bits to a letter: `asks`, `request`, `answer`.
-const ASKS: u64 = 0x61736b73;
-
-const REQUEST: u64 = 0x72657175657374;
-
-const ANSWER: u64 = 0x616e73776572;
-
-// Six changes that all differ: change k adds box 8 + k.
-const CHANGES: [Config; 6] = [
-    Config {
-        added: 0x100,
-        removed: 0,
-    },
-    Config {
-        added: 0x200,
-        removed: 0,
-    },
-    Config {
-        added: 0x400,
-        removed: 0,
-    },
-    Config {
-        added: 0x800,
-        removed: 0,
-    },
-    Config {
-        added: 0x1000,
-        removed: 0,
-    },
-    Config {
-        added: 0x2000,
-        removed: 0,
-    },
-];
-
-// The parts that an example gives of its state, each at its place; one that is not given has no name.
-pub type Given = [Part; PARTS];
-
-// The place of the part with this name, or their number where none has it.
-pub fn place_of(name: u64) -> usize {
-    match name {
-        // `listed`
-        0x6c6973746564 => LISTED,
-        // `change`
-        0x6368616e6765 => CHANGE,
-        // `kept`
-        0x6b657074 => KEPT,
-        // `stopped`
-        0x73746f70706564 => STOPPED,
-        // `device`
-        0x646576696365 => DEVICE,
-        // `round`
-        0x726f756e64 => TABLET,
-        ASKS => TABLET,
-        // `free`
-        0x66726565 => FREE,
-        REQUEST => MESSAGE,
-        ANSWER => MESSAGE,
-        // `commit`
-        0x636f6d6d6974 => MESSAGE,
-        _ => PARTS,
+impl<T> Placed<T> {
+    fn at(place: u64, value: T) -> Option<Self> {
+        let place = place as usize;
+        Some(Placed { place, value })
     }
 }
 
-fn no_notes() -> Notes {
-    let none = books::no_book();
-    none.notes
+fn put<T: Copy>(placed: Option<Placed<T>>, among: &mut [T])
+    requires { 0 < length among.old }
+{
+    if let Some(Placed { place, value }) = placed {
+        let place = place % among.len();
+        among[place] = value;
+    }
+}
+
+// What the parts of an example give of its state, each once.
+#[derive(Clone, Copy, Default)]
+pub struct Given {
+    listed: usize,
+    change: Option<Placed<Config>>,
+    kept: Option<Book>,
+    stopped: u32,
+    device: Option<Placed<Contents>>,
+    tablet: Option<Placed<Tablet>>,
+    free: Option<usize>,
+    slot: Option<Placed<Slot>>,
+}
+
+impl Given {
+    // Takes what a part gives of a state, or says that it gives nothing of one.
+    pub fn take(&mut self, part: Part) -> bool {
+        let numbers = part.numbers;
+        let [first, second, third, fourth, ..] = numbers;
+        match part.name {
+            b"listed" => self.listed = first as usize,
+            b"change" => self.change = Placed::at(first, pair(second, third)),
+            b"kept" => self.kept = Some(book(pair(first, second))),
+            b"stopped" => self.stopped = (first % 0x100000000) as u32,
+            b"device" => self.device = Placed::at(first, contents(pair(second, third), fourth)),
+            b"round" => self.tablet = Placed::at(first, tablet(second, Phase::Idle)),
+            b"asks" => self.tablet = Placed::at(first, tablet(second, asks(numbers))),
+            b"free" => self.free = Some(first as usize),
+            b"request" => self.slot = Placed::at(first, slot(Message::Request(letter(numbers)))),
+            b"answer" => self.slot = Placed::at(first, slot(Message::Answer(letter(numbers)))),
+            b"commit" => self.slot = Placed::at(first, slot(commit(second, third))),
+            _ => return false,
+        }
+        true
+    }
+
+    pub fn state(&self) -> Run {
+        let mut run = state::start(FIRST).run;
+        run.stopped = self.stopped;
+        run.kept = self.kept.unwrap_or(run.kept);
+        run.listed = Listed {
+            changes: changes(),
+            count: self.listed,
+        };
+        put(self.change, &mut run.listed.changes);
+        put(self.device, &mut run.devices);
+        put(self.tablet, &mut run.tablets);
+        if let Some(free) = self.free {
+            for place in run.slots.iter_mut().skip(free) {
+                *place = slot(commit(0, 0));
+            }
+        }
+        put(self.slot, &mut run.slots);
+        run
+    }
+}
+
+// The last bits of a number, as many as a byte has.
+pub fn byte(number: u64) -> u8 {
+    (number % 0x100) as u8
+}
+
+// As many as two bytes have.
+pub fn two_bytes(number: u64) -> u16 {
+    (number % 0x10000) as u16
 }
 
 pub fn pair(added: u64, removed: u64) -> Config {
@@ -99,164 +111,63 @@ pub fn pair(added: u64, removed: u64) -> Config {
     }
 }
 
+// Six changes that all differ: change k adds box 8 + k.
+fn changes() -> [Config; 6] {
+    array::from_fn(|k| pair(0x100 << k, 0))
+}
+
 // A book with no notes.
-fn book(added: u64, removed: u64) -> Book {
-    let notes = no_notes();
-    let config = pair(added, removed);
+fn book(config: Config) -> Book {
     Book {
-        notes: notes,
-        config: config,
+        config,
+        ..books::no_book()
     }
 }
 
-fn contents(added: u64, removed: u64, t: u64) -> Contents {
-    let v = book(added, removed);
-    let candidates = no_notes();
+fn contents(config: Config, t: u64) -> Contents {
     Contents {
-        v: v,
-        candidates: candidates,
+        v: book(config),
+        candidates: books::no_book().notes,
         t: byte(t),
     }
-}
-
-// The six changes, one of which may be given otherwise.
-fn listed(count: u64, change: Part) -> Listed {
-    let mut changes = CHANGES;
-    if change.name != 0 {
-        changes[change.first as usize % 6] = pair(change.second, change.third);
-    }
-    Listed {
-        changes: changes,
-        count: count as usize,
-    }
-}
-
-// The book that a run handed back.
-fn kept(part: Part) -> Book {
-    if part.name == 0 {
-        return book(0x7, 0);
-    }
-    book(part.first, part.second)
-}
-
-fn all_devices(part: Part) -> [Contents; 24] {
-    let fresh = contents(0x7, 0, 0);
-    let mut devices = [fresh; 24];
-    if part.name != 0 {
-        devices[part.first as usize % 24] = contents(part.second, part.third, part.fourth);
-    }
-    devices
-}
-
-// Idle, or asking with what it saved and the boxes that answered.
-fn phase(part: Part) -> Phase {
-    if part.name != ASKS {
-        return Phase::Idle;
-    }
-    let saved = pair(part.third, part.fourth);
-    let notes = no_notes();
-    Phase::Asks(Asking {
-        config: saved,
-        t: byte(part.fifth),
-        candidates: notes,
-        answered: two_bytes(part.sixth),
-        floor: None,
-    })
 }
 
 fn tablet(round: u64, phase: Phase) -> Tablet {
     Tablet {
         round: two_bytes(round),
-        phase: phase,
+        phase,
     }
 }
 
-fn all_tablets(part: Part) -> [Tablet; 8] {
-    let fresh = tablet(0, Phase::Idle);
-    let mut tablets = [fresh; 8];
-    tablets[part.first as usize % 8] = tablet(part.second, phase(part));
-    tablets
+// Asking, with what it saved and the boxes that answered.
+fn asks([_, _, added, removed, t, answered]: [u64; 6]) -> Phase {
+    Phase::Asks(Asking {
+        config: pair(added, removed),
+        t: byte(t),
+        candidates: books::no_book().notes,
+        answered: two_bytes(answered),
+        floor: None,
+    })
+}
+
+fn slot(message: Message) -> Slot {
+    Slot { message }
 }
 
 // A request or an answer with what a fresh device has, and a set of changes.
-fn letter(part: Part) -> Letter {
-    let carried = contents(0x7, 0, part.fifth);
+fn letter([_, from, to, round, t, _]: [u64; 6]) -> Letter {
     Letter {
-        from: byte(part.second),
-        to: byte(part.third),
-        round: two_bytes(part.fourth),
-        contents: carried,
+        from: byte(from),
+        to: byte(to),
+        round: two_bytes(round),
+        contents: contents(FRESH, t),
     }
 }
 
 fn commit(from: u64, to: u64) -> Message {
-    let none = book(0, 0);
     Message::Commit(Notice {
         from: byte(from),
         to: byte(to),
-        book: none,
+        book: books::no_book(),
     })
-}
-
-fn message(part: Part) -> Message {
-    let name = part.name;
-    if name == REQUEST {
-        return Message::Request(letter(part));
-    }
-    if name == ANSWER {
-        return Message::Answer(letter(part));
-    }
-    commit(part.second, part.third)
-}
-
-// The lowest slots free, and all others filled.
-fn slots_with_free(free: usize) -> [Slot; 128] {
-    let none = Slot {
-        message: Message::Empty,
-    };
-    let filled = Slot {
-        message: commit(0, 0),
-    };
-    let mut slots = [none; 128];
-    let mut i = free;
-    while i < 128 {
-        slots[i] = filled;
-        i += 1;
-    }
-    slots
-}
-
-fn all_slots(free: Part, part: Part) -> [Slot; 128] {
-    let lowest = if free.name == 0 {
-        128
-    } else {
-        free.first as usize
-    };
-    let mut slots = slots_with_free(lowest);
-    if part.name != 0 {
-        slots[part.first as usize % 128] = Slot {
-            message: message(part),
-        };
-    }
-    slots
-}
-
-// With the first boxes 0, 1 and 2, as where nothing else is given.
-pub fn state_of(given: Given) -> Run {
-    let devices = all_devices(given[DEVICE]);
-    let tablets = all_tablets(given[TABLET]);
-    let slots = all_slots(given[FREE], given[MESSAGE]);
-    let list = given[LISTED];
-    let stopped = given[STOPPED];
-    let listed = listed(list.first, given[CHANGE]);
-    let kept = kept(given[KEPT]);
-    Run {
-        devices: devices,
-        tablets: tablets,
-        slots: slots,
-        listed: listed,
-        stopped: (stopped.first % 0x100000000) as u32,
-        kept: kept,
-        first: 0x7,
-    }
 }

@@ -12,62 +12,31 @@
 //     ask TABLET ADDED REMOVED · advance TABLET · deliver SLOT · lose SLOT · repeat SLOT · stop DEVICE · unplug BOX · start BOXES
 #![tactic(auto)]
 
-use given::{Given, PARTS, Part};
+use given::{Given, Piece, Pieces};
+use std::io;
 
 mod shown;
 
-// What an example gives so far, and the place in the text.
-#[derive(Clone, Copy)]
-struct Turn {
-    given: Given,
-    at: usize,
+fn say_words(rt: &impl Print, words: &[u8]) -> io::Result<()> {
+    rt.write_all(words)?;
+    print!(rt; ": ")
 }
 
-fn nothing_given() -> Given {
-    let none = given::no_part();
-    [none; PARTS]
-}
-
-fn with_part(rt: &impl Print, mut given: Given, part: Part) -> Given {
-    let place = given::place_of(part.name);
-    if place < PARTS {
-        given[place] = part;
-    } else {
-        shown::show(rt, given, part);
-    }
-    given
-}
-
-// The piece at a place: words, which begin with a digit, begin an example.
-fn after_piece(rt: &impl Print, text: &[u8], turn: Turn) -> Turn {
-    let at = turn.at;
-    if given::byte_at(text, at) <= b'9' {
-        let none = nothing_given();
-        return Turn {
-            given: none,
-            at: shown::say_words(rt, text, at),
-        };
-    }
-    let part = given::part_at(text, at);
-    let before = turn.given;
-    let given = with_part(rt, before, part);
-    Turn {
-        given: given,
-        at: part.next,
-    }
-}
-
+// Where a line cannot be printed, the next is tried all the same.
 fn examples(rt: &impl Print, text: &[u8]) {
-    let none = nothing_given();
-    let mut turn = Turn { given: none, at: 0 };
-    // A text has no more pieces than bytes.
-    let mut pieces: usize = 0;
-    while pieces < text.len() {
-        if text.len() <= turn.at {
-            return;
+    let mut given = Given::default();
+    for piece in Pieces::of(text) {
+        match piece {
+            Piece::Words(words) => {
+                given = Given::default();
+                let _ = say_words(rt, words);
+            }
+            Piece::Part(part) => {
+                if !given.take(part) {
+                    let _ = shown::show(rt, &given, part);
+                }
+            }
         }
-        turn = after_piece(rt, text, turn);
-        pieces += 1;
     }
 }
 

@@ -1,141 +1,80 @@
 // What a step, the start and the unplug question answer, behind the words of an example.
-use devices::{Accepted, Outcome, Step};
-use given::{Given, Part, byte, pair, state_of};
-use refusals::Refusal;
-use state::Run;
+use devices::{Accepted, Step};
+use given::{Given, Part, byte, pair, two_bytes};
+use std::io;
 
-pub(crate) fn say(rt: &impl Print, text: &[u8]) {
-    let _ = rt.write_all(text);
-}
-
-pub(crate) fn say_number(rt: &impl Print, number: u64) {
-    let _ = rt.print(number);
-}
-
-// Prints the words of an example, and gives the place of the piece behind them.
-pub(crate) fn say_words(rt: &impl Print, text: &[u8], from: usize) -> usize {
-    let to = given::words_end(text, from);
-    if from <= to {
-        if to <= text.len() {
-            say(rt, &text[from..to]);
-        }
-    }
-    say(rt, b": ");
-    given::behind(text, to)
-}
-
-fn say_round(rt: &impl Print, round: u16) {
-    say(rt, b" R ");
-    say_number(rt, round as u64);
-}
-
-// What an outcome brings besides its number.
-fn say_values(rt: &impl Print, outcome: Outcome) {
-    match outcome {
-        Ok(Accepted::Done) => (),
-        Ok(Accepted::Round(round)) => say_round(rt, round),
-        Ok(Accepted::Committed(_)) => say(rt, b" C"),
-        Ok(Accepted::Adopted(_)) => say(rt, b" A"),
-        Err(_) => (),
-    }
-}
-
-fn say_state(rt: &impl Print, same: bool) {
-    if same {
-        say(rt, b", state as given");
-    } else {
-        say(rt, b", STATE CHANGED");
-    }
-}
-
-// An outcome, and of a refusal whether it hands back the very state: the sums of the states before and after.
-fn say_outcome(rt: &impl Print, outcome: Outcome, before: u64, after: u64) {
-    let number = devices::number_of(outcome);
-    say_number(rt, number as u64);
-    say_values(rt, outcome);
-    if number != 0 {
-        say_state(rt, before == after);
-    }
-}
-
-fn show_step(rt: &impl Print, run: Run, step: Step) {
-    let before = given::sum_of(run);
-    let stepped = parlour::step(run, step);
-    let outcome = stepped.outcome;
-    say_outcome(rt, outcome, before, given::sum_of(stepped.run));
-}
-
-fn show_start(rt: &impl Print, first: u16) {
-    let started = state::start(first);
-    let outcome = started.outcome;
-    say_number(rt, devices::number_of(outcome) as u64);
-}
-
-fn say_unplug(rt: &impl Print, answer: Result<bool, Refusal>) {
-    match answer {
-        Ok(true) => say(rt, b"0 yes"),
-        Ok(false) => say(rt, b"0 no"),
-        Err(refusal) => say_number(rt, u8::from(refusal) as u64),
-    }
-}
-
-fn show_unplug(rt: &impl Print, given: Given, number: u8) {
-    say_unplug(rt, parlour::may_unplug(state_of(given), number));
-}
-
-// The step that a part names, if it names one.
+// What a part asks.
 #[derive(Clone, Copy)]
-enum Named {
+enum Asked {
     Step(Step),
-    Nothing,
+    Start(u16),
+    Unplug(u8),
 }
 
-// An Ask brings the tablet's lowest note.
-fn step_named(part: Part) -> Named {
-    let name = part.name;
-    let number = byte(part.first);
-    match name {
-        // `ask`
-        0x61736b => {
-            let change = pair(part.second, part.third);
-            Named::Step(Step::Ask {
+impl Asked {
+    // By the part's name. An Ask brings the tablet's lowest note.
+    fn of(part: Part) -> Option<Self> {
+        let [first, second, third, ..] = part.numbers;
+        let number = byte(first);
+        let step = match part.name {
+            b"start" => return Some(Asked::Start(two_bytes(first))),
+            b"unplug" => return Some(Asked::Unplug(number)),
+            b"ask" => Step::Ask {
                 tablet: number,
                 notes: 1,
-                pair: change,
-            })
-        }
-        // `advance`
-        0x616476616e6365 => Named::Step(Step::Advance(number)),
-        // `deliver`
-        0x64656c69766572 => Named::Step(Step::Deliver(number)),
-        // `lose`
-        0x6c6f7365 => Named::Step(Step::Lose(number)),
-        // `repeat`
-        0x726570656174 => Named::Step(Step::Repeat(number)),
-        // `stop`
-        0x73746f70 => Named::Step(Step::Stop(number)),
-        _ => Named::Nothing,
+                pair: pair(second, third),
+            },
+            b"advance" => Step::Advance(number),
+            b"deliver" => Step::Deliver(number),
+            b"lose" => Step::Lose(number),
+            b"repeat" => Step::Repeat(number),
+            b"stop" => Step::Stop(number),
+            _ => return None,
+        };
+        Some(Asked::Step(step))
     }
 }
 
-// Shows the step that a part names.
-fn show_named(rt: &impl Print, given: Given, part: Part) {
-    let Named::Step(step) = step_named(part) else {
-        say(rt, b"NO SUCH PART");
-        return;
-    };
-    show_step(rt, state_of(given), step);
+// An outcome's number and what it brings besides, and of a refusal whether it hands back the very state.
+fn show_step(rt: &impl Print, given: &Given, step: Step) -> io::Result<()> {
+    let run = given.state();
+    let stepped = parlour::step(run, step);
+    match stepped.outcome {
+        Ok(Accepted::Done) => println!(rt; "0"),
+        Ok(Accepted::Round(round)) => println!(rt; "0 R {round}"),
+        Ok(Accepted::Committed(_)) => println!(rt; "0 C"),
+        Ok(Accepted::Adopted(_)) => println!(rt; "0 A"),
+        Err(refusal) => {
+            let number = u8::from(refusal);
+            let state = if stepped.run == run {
+                "state as given"
+            } else {
+                "STATE CHANGED"
+            };
+            println!(rt; "{number}, {state}")
+        }
+    }
+}
+
+fn show_start(rt: &impl Print, first: u16) -> io::Result<()> {
+    let number = devices::number_of(state::start(first).outcome);
+    println!(rt; "{number}")
+}
+
+fn show_unplug(rt: &impl Print, given: &Given, number: u8) -> io::Result<()> {
+    match parlour::may_unplug(given.state(), number) {
+        Ok(true) => println!(rt; "0 yes"),
+        Ok(false) => println!(rt; "0 no"),
+        Err(refusal) => println!(rt; "{}", u8::from(refusal)),
+    }
 }
 
 // Shows what a part asks of a state.
-pub(crate) fn show(rt: &impl Print, given: Given, part: Part) {
-    let name = part.name;
-    match name {
-        // `start`
-        0x7374617274 => show_start(rt, given::two_bytes(part.first)),
-        // `unplug`
-        0x756e706c7567 => show_unplug(rt, given, byte(part.first)),
-        _ => show_named(rt, given, part),
+pub(crate) fn show(rt: &impl Print, given: &Given, part: Part) -> io::Result<()> {
+    match Asked::of(part) {
+        Some(Asked::Step(step)) => show_step(rt, given, step),
+        Some(Asked::Start(first)) => show_start(rt, first),
+        Some(Asked::Unplug(number)) => show_unplug(rt, given, number),
+        None => println!(rt; "NO SUCH PART"),
     }
-    say(rt, b"\n");
 }

@@ -2,27 +2,22 @@
 #![tactic(auto)]
 
 use std::io;
-use tape::Read;
+use refusals::Refusal;
+use tape::Recorded;
 
 // How many steps a reading gave.
-fn steps_in(read: Read) -> u64 {
-    match read {
-        Read::Steps(recorded) => recorded.steps as u64,
-        Read::Refused(_) => 0,
-    }
+fn steps_in(read: Result<Recorded, Refusal>) -> u64 {
+    read.map_or(0, |recorded| recorded.steps as u64)
 }
 
 fn read_often(tape: &[u8]) -> u64 {
     // A step takes 6 bits at least, so a tape of 4,096 bytes has no more than 5,458.
     let mut row = [0u64; 5458];
-    let mut sum: u64 = 0;
-    let mut i: usize = 0;
-    while i < 1000 {
-        let read = tape::read_tape(tape, &mut row);
-        sum = std::num::wrapping_add_u64(sum, steps_in(read));
-        i += 1;
+    let mut steps: u64 = 0;
+    for _ in 0..1000 {
+        steps = steps.wrapping_add(steps_in(tape::read_tape(tape, &mut row)));
     }
-    sum
+    steps
 }
 
 fn main(rt: HostRuntime) -> io::Result<()> {

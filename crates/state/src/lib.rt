@@ -11,13 +11,13 @@ use books::{Book, Config, Listed};
 use devices::{Accepted, Contents, Letter, Message, Outcome, Phase, Tablet};
 use refusals::Refusal;
 
-#[derive(Clone, Copy)]
+#[derive(Clone, Copy, PartialEq, Eq)]
 pub struct Slot {
     pub message: Message,
 }
 
 // The run keeps the first boxes too: they are never changed.
-#[derive(Clone, Copy)]
+#[derive(Clone, Copy, PartialEq, Eq)]
 pub struct Run {
     pub devices: [Contents; 24],
     pub tablets: [Tablet; 8],

@@ -1,36 +1,45 @@
-// What the examples of reading and of writing share: printing, and how much is lent.
+// What the examples of reading and of writing share: how they are gone through, how much is lent, and how bytes are printed.
 ghost use Rattle.streams.specs.Counts.{IsPrefixLen};
 
-pub(crate) fn say(rt: &impl Print, text: &[u8]) {
-    let _ = rt.write_all(text);
+use std::{fmt, io};
+
+// An example, which is tried and printed as a line.
+pub(crate) trait Example {
+    fn show(&self, rt: &impl Print) -> io::Result<()>;
 }
 
-pub(crate) fn say_number(rt: &impl Print, number: u64) {
-    let _ = rt.print(number);
+// Examples, and the words for them, which begin with the number that they are about.
+pub(crate) struct Group<'a, E> {
+    pub about: &'a str,
+    pub examples: &'a [E],
 }
 
-// A number in hexadecimal digits, at least so many, of which there are 16 at most.
-pub(crate) fn say_hexadecimal(rt: &impl Print, number: u64, digits: usize) {
-    let width = digits.min(16);
-    let _ = print!(rt; "{number:0width$x}");
-}
-
-// How many of some bytes are lent: a number of them, or all.
-pub(crate) fn bytes_lent(number: usize, bytes: &[u8]) -> usize
-    ensures { IsPrefixLen result bytes.now }
-{
-    if number < bytes.len() {
-        return number;
+// Where a line cannot be printed, the next is tried all the same.
+pub(crate) fn show_all<E: Example>(rt: &impl Print, groups: &[Group<'_, E>]) {
+    for group in groups {
+        let _ = println!(rt; "{}", group.about);
+        for example in group.examples {
+            let _ = example.show(rt);
+        }
     }
-    bytes.len()
 }
 
-// How many of some words are lent.
-pub(crate) fn words_lent(number: usize, words: &[u64]) -> usize
-    ensures { IsPrefixLen result words.now }
+// How many of some bytes or words are lent: a number of them, or all.
+pub(crate) fn lent<T>(number: usize, all: &[T]) -> usize
+    ensures { IsPrefixLen result all.now }
 {
-    if number < words.len() {
-        return number;
+    number.min(all.len())
+}
+
+// Bytes, which are printed in hexadecimal digits.
+#[derive(Clone, Copy)]
+pub(crate) struct Bytes<'a>(pub &'a [u8]);
+
+impl fmt::Display for Bytes<'_> {
+    fn fmt<W: fmt::Write>(&self, f: &mut fmt::Formatter<W>) -> fmt::Result {
+        for byte in self.0 {
+            write!(f, "{byte:02x}")?;
+        }
+        Ok(())
     }
-    words.len()
 }

@@ -5,18 +5,17 @@
 use lines::Listed;
 use std::rt::Env;
 use streams::Failure;
-use tape::Written;
 use text_form::StepWords;
 
 // The tape of first boxes and step words, written whole or not at all.
 fn write_tape(rt: &(impl Print + Eprint), first: u16, words: &[u64]) -> Result<(), Failure> {
     let mut tape = [0u8; 4096];
     match tape::write_tape(first, words, &mut tape) {
-        Written::Refused(number) => {
-            lines::say_refused(rt, number);
+        Ok(length) => streams::write_all(rt, &tape[..length]),
+        Err(refusal) => {
+            lines::say_refused(rt, refusal);
             Err(Failure::Refused)
         }
-        Written::Bytes(length) => streams::write_all(rt, &tape[..length]),
     }
 }
 
