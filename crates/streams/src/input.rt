@@ -29,6 +29,7 @@ pub fn read_all(rt: &(impl io::Input + Eprint), buffer: &mut [u8]) -> Result<usi
     ensures failed { IfErr result (λ e. IsPrefixLen e.length buffer.new) }
 {
     let mut length = 0;
+    // No `for`: a read brings as many bytes as it likes.
     while length < buffer.len() {
         match read_some(rt, &mut buffer[length..]) {
             Ok(0) => return Ok(length),

@@ -1,4 +1,6 @@
 // Words of a text or an argument, taken byte by byte: what a word says, and the number that it is.
+ghost use Rattle.std.specs.Prelude.{◌≤◌, IfSome};
+
 use std::rt::Env;
 
 // A word: its first eight bytes, so that words of up to eight can be told apart; how many bytes it has; and the number that it is in
@@ -12,7 +14,9 @@ pub struct Word {
 }
 
 // A number with one digit more, up to 65,536 for all that is larger, which is over every bound.
-fn with_digit(number: Option<u64>, base: u64, digit: Option<u32>) -> Option<u64> {
+fn with_digit(number: Option<u64>, base: u64, digit: Option<u32>) -> Option<u64>
+    ensures { IfSome result (λ n. n ≤ 65536) }
+{
     let shifted = number?.saturating_mul(base);
     Some(shifted.saturating_add(u64::from(digit?)).min(65536))
 }
