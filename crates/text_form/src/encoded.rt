@@ -3,7 +3,7 @@ ghost use Rattle.text_form.specs.Encoding.{ReadAs};
 
 use tape::Fields;
 
-// The fields at their places, most significant bit first (01, "The tape").
+// The fields at their places, most significant bit first (01, "The tape"). The kind is a number, as `tape::fields_of` gives it.
 fn placed(f: Fields) -> u64 {
     let fields = match f.kind {
         0 => (f.first << 58) | (f.second << 50) | (f.third << 34) | (f.fourth << 18),
