@@ -94,7 +94,7 @@ impl Given {
     }
 }
 
-// The last bits of a number, as many as a byte has.
+// The last bits of a number, as many as a byte has. A function for each width: one over the width is no plainer, as `as` takes no parameter.
 pub fn byte(number: u64) -> u8 {
     (number % 0x100) as u8
 }
