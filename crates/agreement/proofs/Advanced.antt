@@ -2,11 +2,11 @@
 --   floor-when-steady    in a steady and allowed round decide is a good floor: it has the ask, and by Shown all that was shown before
 --   commit-when-steady   with candidates unchanged too, each counted answer equals the tablet's contents: the evidence of a commit
 --   keeps-ask, keeps-next-round, keeps-commits, keeps-adopts
+use Rattle.std.specs.Prelude.{Option}
 use Prim.Native.Nat.{ℕ, suc, ◌≤◌}
 use mathlib.Core.Path.{◌≡◌, refl, sym, ◌∙◌}
 use mathlib.Core.Logic.{inl, inr}
 use mathlib.Core.List.{List, [], ◌∷◌}
-use mathlib.Core.Option.{Option}
 use native.Mathlib.Omega.{arith}
 use Rattle.agreement.specs.Lattice.{Among}
 use Rattle.agreement.specs.Setting.{Setting, Book, Contents, Contained, decide, Below}

@@ -2,11 +2,11 @@
 --   tablet-grows     chain, answers and boxes grow, and nobody else asks in the tablet's name
 --   contents_grow    the tablet's contents grow in ⊑*
 --   invariant-at     the invariant of the next state from its parts
+use Rattle.std.specs.Prelude.{Option, Some, None}
 use Prim.Native.Nat.{ℕ, ◌≤◌}
 use mathlib.Core.Path.{◌≡◌}
 use mathlib.Core.Logic.{◌⊎◌, inl, inr}
 use mathlib.Core.List.{List}
-use mathlib.Core.Option.{Option, none, some}
 use Rattle.agreement.specs.Lattice.{Among}
 use Rattle.agreement.specs.Setting.{Setting, Book, Contents, Below}
 use Rattle.agreement.specs.State.{Phase, idle, asking, TabletState, Request, Answer, Network, Handed, State}
@@ -77,8 +77,8 @@ module _ {𝓢 : Setting} where
   -- ---- Its own contents grow
   floor-grows : (asked : Book 𝓢) (shown : List (Book 𝓢)) {x z : Contents 𝓢} → Below x z → (floor : Option (Book 𝓢))
       → FloorFits asked shown x floor → FloorFits asked shown z floor
-  floor-grows asked shown b none h = tt
-  floor-grows asked shown b (some floor) h = record {
+  floor-grows asked shown b None h = tt
+  floor-grows asked shown b (Some floor) h = record {
     own = h.own;
     all_shown = h.all_shown;
     under = contained-trans h.under (decide-monotone b);

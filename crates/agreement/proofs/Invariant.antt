@@ -3,10 +3,10 @@
 --   GoodTablet    what a tablet keeps is held; the boxes it counts answered its own round; its floor is well set
 --   GoodHanded    a book handed back is on the chain, and contains its ask and all that was shown before
 --   Invariant     all of these
+use Rattle.std.specs.Prelude.{Option, Some, None}
 use Prim.Native.Nat.{ℕ, ◌≤◌}
 use mathlib.Core.Path.{◌≡◌}
 use mathlib.Core.List.{List}
-use mathlib.Core.Option.{Option, none, some}
 use Rattle.agreement.specs.Lattice.{Among}
 use Rattle.agreement.specs.Setting.{Setting, Book, Contents, Contained, decide, Below}
 use Rattle.agreement.specs.State.{Asking, Phase, idle, asking, TabletState, Request, Answer, Network, Handed, State}
@@ -54,8 +54,8 @@ module _ {𝓢 : Setting} where
 
   -- An unset floor has nothing to meet.
   abbrev pub FloorFits : Book 𝓢 → List (Book 𝓢) → Contents 𝓢 → Option (Book 𝓢) → Type 0
-  FloorFits asked shown x none = Unit {0}
-  FloorFits asked shown x (some floor) = GoodFloor asked shown x floor
+  FloorFits asked shown x None = Unit {0}
+  FloorFits asked shown x (Some floor) = GoodFloor asked shown x floor
 
   -- As it was when p's ask was accepted in round k: what the boxes kept, and the chain, which held all books shown before. What boxes
   -- answered p since round k is above what they kept then.

@@ -3,8 +3,7 @@
 -- A message that was sent is never forgotten, and may be heard at any time and any number of times. So a message that is lost, late or
 -- repeated, and a device that stops, need no step of their own. Three fields are for the statements alone and no step looks at them:
 -- what an ask brought, its first round, and the books that were handed back before it.
-use Rattle.std.specs.Prelude.{ℕ, ◌≡◌, List, [], ◌∷◌}
-use Rattle.std.proofs.Math.Option.{Option}
+use Rattle.std.specs.Prelude.{ℕ, ◌≡◌, List, [], ◌∷◌, Option}
 use Rattle.agreement.specs.Setting.{Setting, Book, Contents}
 
 module _ (𝓢 : Setting) where

@@ -2,8 +2,7 @@
 --
 -- They allow at least what Figure 2 does: a merge need not trim, a request is heard by any box and an answer by any tablet, and a tablet
 -- may begin a new round at any time. What is promised of all these runs holds of Figure 2's.
-use Rattle.std.specs.Prelude.{ℕ, suc, ◌≡◌, ◌⊎◌, List, ◌∷◌}
-use Rattle.std.proofs.Math.Option.{Option, none, some}
+use Rattle.std.specs.Prelude.{ℕ, suc, ◌≡◌, ◌⊎◌, List, ◌∷◌, Option, Some, None}
 use Rattle.agreement.specs.Lattice.{Among}
 use Rattle.agreement.specs.Setting.{Setting, Book, Contents, Contained, decide, Queried, Knows}
 use Rattle.agreement.specs.State.{Asking, Phase, idle, asking, TabletState, Request, Answer, Network, Handed, State, books, told, Fresh}
@@ -69,7 +68,7 @@ module _ {𝓢 : Setting} where
   began saved answered brought round shown = record {
     saved = saved;
     answered = answered;
-    floor = none;
+    floor = None;
     asked = brought;
     first_round = round;
     shown = shown;
@@ -183,8 +182,8 @@ module _ {𝓢 : Setting} where
   -- What Advance makes of the floor (lines 9 to 11): it stays, or it was unset, the round is allowed and steady, and it becomes decide.
   pub data Floored (x : Contents 𝓢) (pending : Asking 𝓢) : Option (Book 𝓢) → Type 0 where
     stays : Floored x pending pending.floor
-    set : pending.floor ≡ none → Steady pending.saved x → Allowed pending.saved pending.answered
-        → Floored x pending (some (decide x))
+    set : pending.floor ≡ None → Steady pending.saved x → Allowed pending.saved pending.answered
+        → Floored x pending (Some (decide x))
 
   -- Advance to a new round (lines 3 to 8).
   pub record NextRound (s s' : State 𝓢) : Type 0 where
@@ -226,7 +225,7 @@ module _ {𝓢 : Setting} where
     pub pending : Asking 𝓢
     pub contents : Contents 𝓢
     pub floor : Book 𝓢
-    pub floored : Floored contents pending (some floor)
+    pub floored : Floored contents pending (Some floor)
     pub reached : Contained floor contents.committed
     pub moves : OnTablet s s' tablet
         (record { contents = contents; round = round; phase = asking pending })

@@ -1,6 +1,5 @@
 -- What a step does: to the acting device's parts, to the list of changes, and which messages go out.
-use Rattle.std.specs.Prelude.{ℕ, zero, suc, ◌-◌, ◌^◌, Bool, true, false, List, [], ◌∷◌, ltb, leb, Result, Ok, Err}
-use Rattle.std.proofs.Math.Option.{Option, none, some}
+use Rattle.std.specs.Prelude.{ℕ, zero, suc, ◌-◌, ◌^◌, Bool, true, false, List, [], ◌∷◌, ltb, leb, Result, Ok, Err, Option, Some, None}
 use Rattle.sets.specs.Choice.{pick, both}
 use Rattle.sets.specs.Sets.{has}
 use Rattle.refusals.specs.declared.Refusal.{Refusal}
@@ -29,11 +28,11 @@ pub record Told : Type 0 where
 
 -- the answer that each case of an outcome is; "A refusal carries no book"
 abbrev pub answer_of : Outcome → Told
-answer_of (Ok Done) = record { number = 0; round = none; committed = none; adopted = none }
-answer_of (Ok (Round n)) = record { number = 0; round = some n; committed = none; adopted = none }
-answer_of (Ok (Committed b)) = record { number = 0; round = none; committed = some b; adopted = none }
-answer_of (Ok (Adopted b)) = record { number = 0; round = none; committed = none; adopted = some b }
-answer_of (Err refusal) = record { number = number refusal; round = none; committed = none; adopted = none }
+answer_of (Ok Done) = record { number = 0; round = None; committed = None; adopted = None }
+answer_of (Ok (Round n)) = record { number = 0; round = Some n; committed = None; adopted = None }
+answer_of (Ok (Committed b)) = record { number = 0; round = None; committed = Some b; adopted = None }
+answer_of (Ok (Adopted b)) = record { number = 0; round = None; committed = None; adopted = Some b }
+answer_of (Err refusal) = record { number = number refusal; round = None; committed = None; adopted = None }
 
 -- its number
 abbrev pub number_of : Outcome → ℕ

@@ -1,6 +1,5 @@
 -- One step of a run: the rule's effect on the acting device's parts, applied to the run; and the question whether a box may be unplugged.
-use Rattle.std.specs.Prelude.{ℕ, ◌^◌, Bool, ltb, ◌≡◌, get_or, set, Result, Ok, Err}
-use Rattle.std.proofs.Math.Option.{Option, none, some}
+use Rattle.std.specs.Prelude.{ℕ, ◌^◌, Bool, ltb, ◌≡◌, get_or, set, Result, Ok, Err, Option, Some, None}
 use Rattle.sets.specs.Choice.{pick}
 use Rattle.sets.specs.Sets.{has, union}
 use Rattle.refusals.specs.declared.Refusal.{Refusal}
@@ -99,8 +98,8 @@ pub record UnplugAnswer : Type 0 where
   pub may : Option Bool
 
 abbrev pub unplug_answer : Result Bool Refusal → UnplugAnswer
-unplug_answer (Ok may) = record { number = 0; may = some may }
-unplug_answer (Err refusal) = record { number = number refusal; may = none }
+unplug_answer (Ok may) = record { number = 0; may = Some may }
+unplug_answer (Err refusal) = record { number = number refusal; may = None }
 
 -- what the question promises
 pub record UnplugPromise (r : Run) (box : ℕ) (u : Result Bool Refusal) : Type 0 where

@@ -5,8 +5,6 @@ use mathlib.Core.Bool.{true, false≢true}
 use mathlib.Core.Path.{◌≡◌, refl, sym, ap, subst, ◌∙◌}
 use mathlib.Core.Logic.{inl, inr}
 use mathlib.Core.List.{List, ◌∷◌}
-use mathlib.Core.Option.{some}
-use mathlib.Core.Option as M
 use native.Mathlib.Numerals.{add-one}
 use native.Mathlib.Omega.{arith}
 use borrow.Author.Tests.{eqb-true}
@@ -120,9 +118,9 @@ module _ {first : AbstractBook parlour} {r : Run} {h : List Event} (now : Standi
 
   floored-as : {floor : Option Book} → Floored a (here_at d r) floor → AbstractFloored x alike.pending (as_floor floor)
   floored-as (as_saved floor e) =
-      subst (λ (w : M.Option (AbstractBook parlour)). AbstractFloored x alike.pending w) (alike.like.floor ∙ ap as_floor e) stays
+      subst (λ (w : Option (AbstractBook parlour)). AbstractFloored x alike.pending w) (alike.like.floor ∙ ap as_floor e) stays
   floored-as (now_set e p q) =
-      subst (λ (w : AbstractBook parlour). AbstractFloored x alike.pending (some w)) decided-as
+      subst (λ (w : AbstractBook parlour). AbstractFloored x alike.pending (Some w)) decided-as
       (set (alike.like.floor ∙ ap as_floor e) (steady-as q) (allowed-here p q))
 
   -- ---- A new round (line 15, and lines 4 to 8)

@@ -1,11 +1,10 @@
 -- Histories: what one event more makes of the last ask, of the accepted asks and of the books handed back.
-use Rattle.std.specs.Prelude.{Ok, Err}
+use Rattle.std.specs.Prelude.{Ok, Err, Some}
 use Prim.Native.Nat.{ℕ}
 use mathlib.Core.Bool.{Bool, true, false}
 use mathlib.Core.Path.{◌≡◌, ap}
 use mathlib.Core.Logic.{inl, inr}
 use mathlib.Core.List.{List, [], ◌∷◌}
-use mathlib.Core.Option.{some}
 use native.Mathlib.Omega.{arith}
 use Rattle.sets.specs.Choice.{pick}
 use Rattle.books.specs.declared.Book.{Book}
@@ -24,15 +23,15 @@ before_ask t (event ∷ earlier) = pick (asked_by t event) earlier (before_ask t
 module _ (t : ℕ) (event : Event) (earlier : List Event) where
   pub last-stays : asked_by t event ≡ false → last_ask t (event ∷ earlier) ≡ last_ask t earlier
   unfolding last_ask
-  last-stays e = ap (λ (b : Bool). pick b (some (brought event.step)) (last_ask t earlier)) e
+  last-stays e = ap (λ (b : Bool). pick b (Some (brought event.step)) (last_ask t earlier)) e
 
   pub before-stays : asked_by t event ≡ false → before_ask t (event ∷ earlier) ≡ before_ask t earlier
   unfolding before_ask
   before-stays e = ap (λ (b : Bool). pick b earlier (before_ask t earlier)) e
 
-  pub last-new : asked_by t event ≡ true → last_ask t (event ∷ earlier) ≡ some (brought event.step)
+  pub last-new : asked_by t event ≡ true → last_ask t (event ∷ earlier) ≡ Some (brought event.step)
   unfolding last_ask
-  last-new e = ap (λ (b : Bool). pick b (some (brought event.step)) (last_ask t earlier)) e
+  last-new e = ap (λ (b : Bool). pick b (Some (brought event.step)) (last_ask t earlier)) e
 
   pub before-new : asked_by t event ≡ true → before_ask t (event ∷ earlier) ≡ earlier
   unfolding before_ask

@@ -1,10 +1,10 @@
 -- A run of the parlour and its history are like a state of the agreement argument (`Like`): tablets and boxes keep the same, every message in
 -- a slot was sent, every book of the history was handed back, every ask was accepted in it. And what one event more leaves alike.
+use Rattle.std.specs.Prelude.{Option, Some}
 use Prim.Native.Nat.{ℕ, ◌+◌, ◌-◌, ◌^◌, ◌<◌}
 use mathlib.Core.Bool.{Bool, true, false}
 use mathlib.Core.Path.{◌≡◌, refl, ◌∙◌}
 use mathlib.Core.List.{List}
-use mathlib.Core.Option.{Option, some}
 use native.Mathlib.Nat.{lt_irrefl}
 use native.Mathlib.Omega.{arith}
 use lib.Dec.{ltb, leb}
@@ -46,7 +46,7 @@ pub record AskingLike (listed : Listed) (last : Option Book) (before : List Even
   pub changes : x.saved.changes ≡ as_changes listed a.t
   pub answered : x.answered ≡ a.answered
   pub floor : x.floor ≡ as_floor a.floor
-  pub asked : last ≡ some (of_book x.asked)
+  pub asked : last ≡ Some (of_book x.asked)
   pub shown : (b : HandedBack before) → Among (as_book b.book) x.shown
 
 abbrev pub PhaseLike : Listed → Option Book → List Event → Phase → AbstractPhase parlour → Type 0
@@ -76,7 +76,7 @@ pub record GotBack (handed : List (Handed parlour)) (event : Event) (earlier : L
   pub got : Handed parlour
   pub among : Among got handed
   pub is : got.book ≡ as_book book
-  pub asked : last_ask tablet earlier ≡ some (of_book got.asked)
+  pub asked : last_ask tablet earlier ≡ Some (of_book got.asked)
   pub shown : (b : HandedBack (before_ask tablet earlier)) → Among (as_book b.book) got.shown
 
 -- an accepted ask brought the book

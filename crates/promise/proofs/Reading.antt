@@ -5,8 +5,6 @@ use Prim.Native.Nat.{ℕ, zero, suc}
 use mathlib.Core.Bool.{Bool, true, false, true≢false}
 use mathlib.Core.Path.{◌≡◌, refl, sym, ◌∙◌}
 use mathlib.Core.List.{List, [], ◌∷◌}
-use mathlib.Core.Option.{none, some}
-use mathlib.Core.Option as M
 use Rattle.std.specs.Prelude.{Option, Some, None}
 use Rattle.sets.specs.Choice.{pick}
 use Rattle.sets.specs.Sets.{digit, has}
@@ -90,9 +88,9 @@ as_changes listed t = changes_below listed t 6
 abbrev pub as_contents : Listed → Contents → AbstractContents parlour
 as_contents listed c = record { committed = as_book c.v; candidates = c.candidates; changes = as_changes listed c.t }
 
-abbrev pub as_floor : Option Book → M.Option (AbstractBook parlour)
-as_floor None = none
-as_floor (Some b) = some (as_book b)
+abbrev pub as_floor : Option Book → Option (AbstractBook parlour)
+as_floor None = None
+as_floor (Some b) = Some (as_book b)
 
 -- ---- Containment of books
 

@@ -4,8 +4,7 @@
 -- the state as it was. Lost, repeated and late messages and stopped devices are steps like any other, in any number and order, so no clause
 -- has to speak of them. Nothing is assumed of the first boxes or of the numbers in a step: with no first box no run starts (12), and a step
 -- with a number out of range is refused (2), but the promise holds of them too.
-use Rattle.std.specs.Prelude.{ℕ, Bool, true, ◌≡◌, ◌⊎◌, List, [], ◌∷◌, eqb}
-use Rattle.std.proofs.Math.Option.{Option, none, some}
+use Rattle.std.specs.Prelude.{ℕ, Bool, true, ◌≡◌, ◌⊎◌, List, [], ◌∷◌, eqb, Option, Some, None}
 use Rattle.sets.specs.Choice.{pick, both}
 use Rattle.sets.specs.Sets.{has}
 use Rattle.books.specs.declared.Config.{Config}
@@ -46,7 +45,7 @@ Happened event earlier (latest ∷ before) = ((event ≡ latest) × (earlier ≡
 
 -- the answer hands back the book, committed or adopted
 abbrev pub HandsBack : Outcome → Book → Type 0
-HandsBack answer book = ((answer_of answer).committed ≡ some book) ⊎ ((answer_of answer).adopted ≡ some book)
+HandsBack answer book = ((answer_of answer).committed ≡ Some book) ⊎ ((answer_of answer).adopted ≡ Some book)
 
 -- a book handed back in a history: by which event, and what came before it
 pub record HandedBack (h : List Event) : Type 0 where
@@ -83,8 +82,8 @@ asked_by t event = both (accepted event.answer) (is_ask_of t event.step)
 
 -- what the last accepted ask of a tablet brought; none where there was none
 unfoldable pub last_ask : ℕ → List Event → Option Book
-last_ask t [] = none
-last_ask t (event ∷ earlier) = pick (asked_by t event) (some (brought event.step)) (last_ask t earlier)
+last_ask t [] = None
+last_ask t (event ∷ earlier) = pick (asked_by t event) (Some (brought event.step)) (last_ask t earlier)
 
 -- ---- What is promised
 
@@ -93,7 +92,7 @@ pub record ContainsOwnAsk (event : Event) (earlier : List Event) (book : Book) :
   pub tablet : ℕ
   pub advance : event.step ≡ Advance tablet
   pub asked : Book
-  pub last : last_ask tablet earlier ≡ some asked
+  pub last : last_ask tablet earlier ≡ Some asked
   pub contained : book_inside asked book ≡ true
 
 -- the note was among the own notes of an accepted ask, and the ask was of the note's owner, tablet n / 16

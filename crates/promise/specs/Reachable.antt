@@ -1,6 +1,5 @@
 -- What the run keeps, in every state of a run from a fresh start (01, "What each device keeps"). It is proved in proofs/Reachable.
-use Rattle.std.specs.Prelude.{ℕ, List, [], ◌∷◌, ◌≡◌}
-use Rattle.std.proofs.Math.Option.{Option, none, some}
+use Rattle.std.specs.Prelude.{ℕ, List, [], ◌∷◌, ◌≡◌, Option, Some, None}
 use Rattle.books.specs.declared.Book.{Book}
 use Rattle.books.specs.Books.{join_books}
 use Rattle.devices.specs.declared.Step.{Step}
@@ -10,8 +9,8 @@ use Rattle.promise.specs.Promise.{Event, after, history}
 
 -- a book joined with another, where there is one
 abbrev pub joined_if : Book → Option Book → Book
-joined_if book none = book
-joined_if book (some other) = join_books book other
+joined_if book None = book
+joined_if book (Some other) = join_books book other
 
 -- a book joined with the one that a caller is told of, committed or adopted
 abbrev pub joined_back : Book → Told → Book
