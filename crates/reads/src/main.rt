@@ -2,13 +2,14 @@
 #![tactic(auto)]
 
 use std::io;
-use tape::Read;
+use refusals::Refusal;
+use tape::Recorded;
 
 // How many steps a reading gave.
-fn steps_in(read: Read) -> u64 {
+fn steps_in(read: Result<Recorded, Refusal>) -> u64 {
     match read {
-        Read::Steps(recorded) => recorded.steps as u64,
-        Read::Refused(_) => 0,
+        Ok(recorded) => recorded.steps as u64,
+        Err(_) => 0,
     }
 }
 

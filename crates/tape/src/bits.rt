@@ -50,8 +50,8 @@ fn eight_at(s: &[u8], i: usize) -> u64
     requires { i ≤ 8192 }
     ensures { result ≡ num (window 8 s.now i) }
 {
-    if i <= s.len()
-        && let Some(eight) = s[i..].first_chunk()
+    if i + 8 <= s.len()
+        && let Some(eight) = s[i..i + 8].first_chunk()
     {
         return u64::from_be_bytes(*eight);
     }
