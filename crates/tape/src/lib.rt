@@ -16,6 +16,7 @@ mod writing;
 
 use edition::Edition;
 use layout::Layout;
+use reading::Part;
 use refusals::Refusal;
 
 // What a tape holds: its first boxes, and how many words of the row its steps take.
@@ -51,7 +52,11 @@ pub fn read_tape(tape: &[u8], row: &mut [u64]) -> Result<Recorded, Refusal>
     if row.len() < recorded.steps {
         return Err(Refusal::RowTooShort);
     }
-    reading::fill_row(Edition::First, &tape[2..], row);
+    let part = Part {
+        edition: Edition::First,
+        bytes: &tape[2..],
+    };
+    part.fill_row(row);
     Ok(recorded)
 }
 
