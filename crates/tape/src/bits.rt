@@ -6,13 +6,7 @@ ghost use Rattle.tape.specs.Bits.{num, bits, bits_of, field_at, word, window, Ah
 pub(crate) fn field(word: u64, from: usize, width: usize) -> u64
     ensures { result ≡ field_at word from width }
 {
-    if 64 <= from {
-        return 0;
-    }
-    if 64 - from < width {
-        return 0;
-    }
-    if width == 0 {
+    if width == 0 || 64 <= from || 64 - from < width {
         return 0;
     }
     (word << from) >> (64 - width)
@@ -30,7 +24,7 @@ pub(crate) fn top(x: u64, w: usize) -> u64
 fn byte_at(s: &[u8], i: usize) -> u64
     ensures { (result ≡ get_or s.now i 0) × (result < 256) }
 {
-    if i < s.len() { s[i] as u64 } else { 0 }
+    s.get(i).map_or(0, |&byte| u64::from(byte))
 }
 
 // The n bytes from i on as one number, zeros behind the end.
@@ -108,10 +102,8 @@ pub(crate) fn put_word(buf: &mut [u8], p: usize, w: usize, x: u64)
     requires { (w ≤ 64) × (p + w ≤ 8 * length buf.old) × (p ≤ 65000) }
     ensures { bits_of buf.new ≡ overlaid (bits_of buf.old) p (take w (bits 64 x)) }
 {
-    let mut i = 0;
-    while i < w {
+    for i in (0..w).step_by(16) {
         let k = (w - i).min(16);
         put(buf, p + i, k, field(x, i, k));
-        i += k;
     }
 }

@@ -2,16 +2,17 @@
 use native.Mathlib.Omega.{arith}
 use mathlib.Core.Path.{sym}
 use Rattle.tape.proofs.WordLaws.{field-far, field-outside, field-none, field-shifted}
+use Rattle.tape.proofs.bits.field.Goals.{then-width-eq0-via-then-width-eq0, then-width-eq0-via-else-width-eq0+then-from-ge64, then-width-eq0-via-else-width-eq0+else-from-ge64+then-from-width}
 use Rattle.tape.proofs.bits.field.Goals as goal
 
-pub returns-then-from-ge64 : goal.returns-then-from-ge64
-returns-then-from-ge64 c = let a = c.args in sym (field-far a.word a.from a.width c.if-from-ge64.true)
-
-pub returns-then-from-width : goal.returns-then-from-width
-returns-then-from-width c = let a = c.args in sym (field-outside a.word a.from a.width (omega arith))
-
 pub returns-then-width-eq0 : goal.returns-then-width-eq0
-returns-then-width-eq0 c = let a = c.args in sym (field-none a.word a.from a.width c.if-width-eq0.true)
+returns-then-width-eq0 c =
+    let a = c.args in
+    elim c.then-width-eq0.branch [
+      | then-width-eq0-via-then-width-eq0 w ↦ sym (field-none a.word a.from a.width w.if-width-eq0.true)
+      | then-width-eq0-via-else-width-eq0+then-from-ge64 w ↦ sym (field-far a.word a.from a.width w.if-from-ge64.true)
+      | then-width-eq0-via-else-width-eq0+else-from-ge64+then-from-width w ↦ sym (field-outside a.word a.from a.width (omega arith))
+    ]
 
 pub returns : goal.returns
 returns c =

@@ -11,6 +11,7 @@ use Rattle.tape.proofs.BitLaws.{length-bits, bits-part}
 use Rattle.tape.proofs.ByteLaws.{length-bits_of}
 use Rattle.tape.proofs.WordLaws.{field-inside, field_lt}
 use Rattle.tape.proofs.LayLaws.{overlaid-nil, overlaid-overlaid}
+use Rattle.tape.proofs.bits.put_word.Goals.{After-put}
 use Rattle.tape.proofs.bits.put_word.Goals as goal
 
 further : (s : List ℕ) (p w x : ℕ) (b : List ℕ) (i k c : ℕ) → w ≤ 64 → i + k ≤ w → p + w ≤ 8 * length s → bits_of b ≡ overlaid (bits_of s) p (take i (bits 64 x)) → c ≡ num (take k (drop i (bits 64 x)))
@@ -29,11 +30,24 @@ put-requires c =
     let k = c.min-k in
     (omega arith, omega arith, rw c.field.ensures (field_lt c.args.x c.loop-i.i k.result (omega arith)), omega arith, omega arith)
 
+-- what one field more makes
+laid : (c : After-put) → bits_of c.put.new.buf ≡ overlaid (bits_of c.args.buf.now) c.args.p (take (c.loop-i.i + c.min-k.result) (bits 64 c.args.x))
+laid c =
+    let a = c.args in
+    let k = c.min-k in
+    c.put.ensures ∙ further a.buf.now a.p a.w a.x c.loop-i.buf c.loop-i.i k.result c.field.result c.requires.0 (omega arith) c.requires.1 c.loop-i.invariant.2 (c.field.ensures ∙ field-inside a.x c.loop-i.i k.result (omega arith))
+
 pub loop-i-preserved : goal.loop-i-preserved
 loop-i-preserved c =
-    let a = c.args in
-    let k = c.min-k in (
-      omega arith,
-      c.put.auto.buf ∙ c.loop-i.invariant.1,
-      c.put.ensures ∙ further a.buf.now a.p a.w a.x c.loop-i.buf c.loop-i.i k.result c.field.result c.requires.0 (omega arith) c.requires.1 c.loop-i.invariant.2 (c.field.ensures ∙ field-inside a.x c.loop-i.i k.result (omega arith)),
-    )
+    let k : c.min-k.result ≡ 16 = omega arith in
+    (omega arith, c.put.auto.buf ∙ c.loop-i.invariant.1, laid (goal.at.loop-i-preserved c).After-put ∙ ap (λ n. overlaid (bits_of c.args.buf.now) c.args.p (take (c.loop-i.i + n) (bits 64 c.args.x))) k)
+
+pub returns : goal.returns
+returns c =
+    let e : c.loop-i.i ≡ c.args.w = omega arith in
+    c.loop-i.invariant.2 ∙ ap (λ n. overlaid (bits_of c.args.buf.now) c.args.p (take n (bits 64 c.args.x))) e
+
+pub returns-2 : goal.returns-2
+returns-2 c =
+    let e : c.loop-i.i + c.min-k.result ≡ c.args.w = omega arith in
+    laid (goal.at.returns-2 c).After-put ∙ ap (λ n. overlaid (bits_of c.args.buf.now) c.args.p (take n (bits 64 c.args.x))) e
