@@ -6,7 +6,7 @@ ghost use Rattle.tape.specs.Bits.{num, bits, bits_of, field_at, word, window, Ah
 pub(crate) fn field(word: u64, from: usize, width: usize) -> u64
     ensures { result ≡ field_at word from width }
 {
-    if width == 0 || 64 <= from || 64 - from < width {
+    if width == 0 || 64 < from.saturating_add(width) {
         return 0;
     }
     (word << from) >> (64 - width)
