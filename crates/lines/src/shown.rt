@@ -6,7 +6,6 @@ use devices::{Outcome, Phase, Tablet};
 use replay::Decoded;
 use state::Run;
 use streams::{Ended, Out, no_text, read_all, written};
-use tape::Read;
 
 // The forms in which a tape is shown.
 #[derive(Clone, Copy)]
@@ -151,13 +150,9 @@ fn show_refused(rt: &(impl Print + Eprint), form: Form, number: u8) -> Ended {
 fn show_tape(rt: &(impl Print + Eprint), form: Form, tape: &[u8]) -> Ended {
     // A step takes 6 bits at least, so a tape of 4,096 bytes has no more than 5,458.
     let mut row = [0u64; 5458];
-    let read = tape::read_tape(tape, &mut row);
-    match read {
-        Read::Steps(recorded) => {
-            let steps = recorded.steps;
-            show_steps(rt, form, recorded.first, &row[..steps])
-        }
-        Read::Refused(number) => show_refused(rt, form, number),
+    match tape::read_tape(tape, &mut row) {
+        Ok(recorded) => show_steps(rt, form, recorded.first, &row[..recorded.steps]),
+        Err(refusal) => show_refused(rt, form, u8::from(refusal)),
     }
 }
 

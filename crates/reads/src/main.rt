@@ -1,8 +1,8 @@
 // Reads the tape on standard input a thousand times and prints how many steps that gave: what tools/bench measures of the reader.
 #![tactic(auto)]
 
-use std::io;
 use refusals::Refusal;
+use std::io;
 use tape::Recorded;
 
 // How many steps a reading gave.
@@ -19,7 +19,9 @@ fn read_often(tape: &[u8]) -> u64 {
     let mut sum: u64 = 0;
     let mut i: usize = 0;
     while i < 1000 {
-        let read = tape::read_tape(tape, &mut row);
+        // No word of a row is all ones: the next reading waits for the row, so that none of them can be left out.
+        let end = tape.len().saturating_sub((row[0] == u64::MAX) as usize);
+        let read = tape::read_tape(&tape[..end], &mut row);
         sum = std::num::wrapping_add_u64(sum, steps_in(read));
         i += 1;
     }

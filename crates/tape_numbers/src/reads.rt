@@ -3,7 +3,8 @@
 ghost use Rattle.std.specs.Prelude.{◌≡◌, length};
 
 use crate::said::{bytes_lent, say, say_hexadecimal, say_number, words_lent};
-use tape::{Read, Recorded};
+use refusals::Refusal;
+use tape::Recorded;
 
 fn say_recorded(rt: &impl Print, recorded: Recorded) {
     say(rt, b"0 first ");
@@ -12,10 +13,10 @@ fn say_recorded(rt: &impl Print, recorded: Recorded) {
     say_number(rt, recorded.steps as u64);
 }
 
-fn say_read(rt: &impl Print, read: Read) {
+fn say_read(rt: &impl Print, read: Result<Recorded, Refusal>) {
     match read {
-        Read::Steps(recorded) => say_recorded(rt, recorded),
-        Read::Refused(number) => say_number(rt, number as u64),
+        Ok(recorded) => say_recorded(rt, recorded),
+        Err(refusal) => say_number(rt, u8::from(refusal) as u64),
     }
 }
 
@@ -38,7 +39,7 @@ fn say_word(rt: &impl Print, word: u64) {
 
 fn read_into(rt: &impl Print, tape: &[u8], row: &mut [u64]) {
     say_read(rt, tape::read_tape(tape, row));
-    say_check(rt, tape::tape_check(tape));
+    say_check(rt, tape::tape_check(tape).err().map_or(0, u8::from));
 }
 
 fn say_row(rt: &impl Print, first: u64, second: u64, third: u64) {

@@ -3,17 +3,17 @@
 ghost use Rattle.std.specs.Prelude.{◌≡◌, length};
 
 use crate::said::{bytes_lent, say, say_hexadecimal, say_number, words_lent};
-use tape::Written;
+use refusals::Refusal;
 
 fn say_bytes(rt: &impl Print, count: usize) {
     say(rt, b"0 bytes ");
     say_number(rt, count as u64);
 }
 
-fn say_written(rt: &impl Print, written: Written) {
+fn say_written(rt: &impl Print, written: Result<usize, Refusal>) {
     match written {
-        Written::Bytes(count) => say_bytes(rt, count),
-        Written::Refused(number) => say_number(rt, number as u64),
+        Ok(count) => say_bytes(rt, count),
+        Err(refusal) => say_number(rt, u8::from(refusal) as u64),
     }
 }
 

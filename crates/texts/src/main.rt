@@ -4,17 +4,16 @@
 
 use lines::Form;
 use streams::{Ended, Out, Word};
-use tape::Written;
 
 // The tape of first boxes and step words, written whole or not at all.
 fn write_words(rt: &(impl Print + Eprint), first: u16, words: &[u64]) -> Ended {
     let mut tape = [0u8; 4096];
     match tape::write_tape(first, words, &mut tape) {
-        Written::Refused(number) => {
-            lines::say_refused(rt, number);
+        Err(refusal) => {
+            lines::say_refused(rt, u8::from(refusal));
             Ended::Refused
         }
-        Written::Bytes(length) => {
+        Ok(length) => {
             let out = Out {
                 end: length,
                 failed: false,
