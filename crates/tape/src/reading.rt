@@ -6,7 +6,7 @@ ghost use Rattle.tape.specs.Reading.{end_at, end_or, read_at, start, read_steps,
 ghost use Rattle.tape.specs.Promises.{counted, ended_at, recorded_as, held_by};
 
 use crate::Recorded;
-use crate::bits::{ahead, bytes_at, field, top};
+use crate::bits::{ahead, eight_at, field, top};
 use crate::edition::Edition;
 use crate::layout::Layout;
 use refusals::Refusal;
@@ -131,7 +131,7 @@ fn first_boxes(edition: Edition, tape: &[u8]) -> u16
     ensures { result ≡ boxes_in (edition_of edition) tape.now }
 {
     let from = edition.head().boxes;
-    field(bytes_at(tape, from / 8, 8), from % 8, 16) as u16
+    field(eight_at(tape, from / 8), from % 8, 16) as u16
 }
 
 // The first boxes, or what is wrong with a tape before its steps.

@@ -10,5 +10,5 @@ use Rattle.tape.proofs.bits.eight_at.Goals as goal
 pub returns : goal.returns
 returns c =
     let a = c.args in
-    let front : take 8 (take (a.i + 8 - a.i) (drop a.i a.s.now)) ≡ take 8 (drop a.i a.s.now) = take-take 8 (a.i + 8 - a.i) (drop a.i a.s.now) (omega arith) in
-    window-eight a.s.now c.in-Some.eight.now a.i c.from_be_bytes.result (λ k. omega (arith, c.type_inv.s k)) (c.in-Some.ensures.cases.same ∙ front) c.from_be_bytes.ensures
+    let front : take 8 (take (a.from + 8 - a.from) (drop a.from a.bytes.now)) ≡ take 8 (drop a.from a.bytes.now) = take-take 8 (a.from + 8 - a.from) (drop a.from a.bytes.now) (omega arith) in
+    window-eight a.bytes.now c.in-Some.eight.now a.from c.from_be_bytes.result (λ k. omega (arith, c.type_inv.bytes k)) (c.in-Some.ensures.cases.same ∙ front) c.from_be_bytes.ensures
