@@ -67,8 +67,8 @@ pub fn write_tape(first: u16, words: &[u64], buf: &mut [u8]) -> Result<usize, Re
     if first == 0 {
         return Err(Refusal::NoFirstBox);
     }
-    let n = writing::measure(Edition::First, words).ok_or(Refusal::NoStep)?;
-    let size = 2 + writing::bytes_for(Edition::First, n);
+    let count = writing::measure(Edition::First, words).ok_or(Refusal::NoStep)?;
+    let size = 2 + writing::bytes_for(Edition::First, count);
     if 4096 < size {
         return Err(Refusal::TapeTooLong);
     }
