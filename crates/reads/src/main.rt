@@ -15,7 +15,9 @@ fn read_often(tape: &[u8]) -> u64 {
     let mut row = [0u64; 5458];
     let mut steps: u64 = 0;
     for _ in 0..1000 {
-        steps = steps.wrapping_add(steps_in(tape::read_tape(tape, &mut row)));
+        // No word of a row is all ones: the next reading waits for the row, so that none of them can be left out.
+        let end = tape.len().saturating_sub((row[0] == u64::MAX) as usize);
+        steps = steps.wrapping_add(steps_in(tape::read_tape(&tape[..end], &mut row)));
     }
     steps
 }

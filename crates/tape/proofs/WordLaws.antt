@@ -1,6 +1,6 @@
 -- Laws of words: a field cut from a word, bits at the top of a word.
 use mathlib.Core.Path.{◌≡◌, refl, sym, ap, ap₂, subst, ◌∙◌}
-use Prim.Native.Nat.{ℕ, zero, suc, ◌+◌, ◌-◌, ◌*◌, ◌/◌, ◌%◌, ◌^◌, ◌≤◌, ◌<◌}
+use Prim.Native.Nat.{ℕ, ◌+◌, ◌-◌, ◌*◌, ◌/◌, ◌%◌, ◌^◌, ◌≤◌, ◌<◌}
 use mathlib.Core.List.{List, ◌++◌}
 use mathlib.Core.Bool.{Bool, true, false, cond}
 use native.Mathlib.Nat.{add-zero, mod-eq_of_lt}
@@ -42,11 +42,6 @@ field-none x from width e = go (leb (from + width) 64)
     go : (b : Bool) → cond b (num (take width (drop from (bits 64 x)))) 0 ≡ 0
     go true = ap (λ w. num (take w (drop from (bits 64 x)))) e
     go false = refl
-
--- a field that begins behind the word
-pub field-far : (x from width : ℕ) → 64 ≤ from → field_at x from width ≡ 0
-field-far x from zero h = field-none x from zero refl
-field-far x from (suc w) h = field-outside x from (suc w) (omega arith)
 
 -- `(x << from) >> (64 - width)`
 pub field-shifted : (x from width : ℕ) → x < 2 ^ 64 → from + width ≤ 64 → x * 2 ^ from % 2 ^ 64 / 2 ^ (64 - width) ≡ field_at x from width

@@ -6,112 +6,104 @@ ghost use Rattle.tape.specs.Bits.{num, bits, bits_of, field_at, word, window, Ah
 pub(crate) fn field(word: u64, from: usize, width: usize) -> u64
     ensures { result ≡ field_at word from width }
 {
-    if 64 <= from {
-        return 0;
-    }
-    if 64 - from < width {
-        return 0;
-    }
-    if width == 0 {
+    if width == 0 || 64 < from.saturating_add(width) {
         return 0;
     }
     (word << from) >> (64 - width)
 }
 
-// The first w bits of a word, and zeros below.
-pub(crate) fn top(x: u64, w: usize) -> u64
-    requires { (1 ≤ w) × (w ≤ 64) }
-    ensures { result ≡ word (take w (bits 64 x)) }
+// The first bits of a word, so many, and zeros below.
+pub(crate) fn top(whole: u64, width: usize) -> u64
+    requires { (1 ≤ width) × (width ≤ 64) }
+    ensures { result ≡ word (take width (bits 64 whole)) }
 {
-    (x >> (64 - w)) << (64 - w)
+    (whole >> (64 - width)) << (64 - width)
 }
 
 // The byte at a place, and 0 behind the end.
-fn byte_at(s: &[u8], i: usize) -> u64
-    ensures { (result ≡ get_or s.now i 0) × (result < 256) }
+fn byte_at(bytes: &[u8], place: usize) -> u64
+    ensures { (result ≡ get_or bytes.now place 0) × (result < 256) }
 {
-    if i < s.len() { s[i] as u64 } else { 0 }
+    bytes.get(place).map_or(0, |&byte| u64::from(byte))
 }
 
-// The n bytes from i on as one number, zeros behind the end.
-pub(crate) fn bytes_at(s: &[u8], i: usize, n: usize) -> u64
-    requires { (n ≤ 8) × (i ≤ 8192) }
-    ensures { result ≡ num (window n s.now i) }
+// So many bytes from a place on as one number, zeros behind the end.
+fn bytes_at(bytes: &[u8], from: usize, count: usize) -> u64
+    requires { (count ≤ 8) × (from ≤ 8192) }
+    ensures { result ≡ num (window count bytes.now from) }
 {
-    let mut x = 0;
-    for k in 0..n {
-        x = (x << 8) | byte_at(s, i + k);
+    let mut number = 0;
+    for k in 0..count {
+        number = (number << 8) | byte_at(bytes, from + k);
     }
-    x
+    number
 }
 
-// The eight bytes from i on, zeros behind the end: with no test at each byte they are one load.
-fn eight_at(s: &[u8], i: usize) -> u64
-    requires { i ≤ 8192 }
-    ensures { result ≡ num (window 8 s.now i) }
+// The eight bytes from a place on, zeros behind the end: with no test at each byte they are one load.
+pub(crate) fn eight_at(bytes: &[u8], from: usize) -> u64
+    requires { from ≤ 8192 }
+    ensures { result ≡ num (window 8 bytes.now from) }
 {
-    if i <= s.len()
-        && let Some(eight) = s[i..].first_chunk()
+    if from + 8 <= bytes.len()
+        && let Some(eight) = bytes[from..from + 8].first_chunk()
     {
         return u64::from_be_bytes(*eight);
     }
-    bytes_at(s, i, 8)
+    bytes_at(bytes, from, 8)
 }
 
-// The bits from bit p on at the top of a word: as many as there are, up to 57.
-pub(crate) fn ahead(s: &[u8], p: usize) -> u64
-    requires { p ≤ 65536 }
-    ensures { Ahead (bits_of s.now) p result }
+// The bits from a bit on at the top of a word: as many as there are, up to 57.
+pub(crate) fn ahead(bytes: &[u8], at: usize) -> u64
+    requires { at ≤ 65536 }
+    ensures { Ahead (bits_of bytes.now) at result }
 {
-    eight_at(s, p / 8) << (p % 8)
+    eight_at(bytes, at / 8) << (at % 8)
 }
 
 // A byte into its place, if there is one.
-fn set_byte(buf: &mut [u8], i: usize, x: u64)
-    requires { x < 256 }
-    ensures { buf.new ≡ set buf.old i x }
+fn set_byte(buf: &mut [u8], place: usize, byte: u64)
+    requires { byte < 256 }
+    ensures { buf.new ≡ set buf.old place byte }
 {
-    if i < buf.len() {
-        buf[i] = x as u8;
+    if place < buf.len() {
+        buf[place] = byte as u8;
     }
 }
 
-// A number of 24 bits with v in the w bits above the last `below`.
-fn blend(old: u64, w: usize, below: usize, v: u64) -> u64
-    requires { (w + below ≤ 24) × (v < 2 ^ w) × (old < 2 ^ 24) }
-    ensures { result ≡ (old / 2 ^ (w + below) * 2 ^ w + v) * 2 ^ below + old % 2 ^ below }
+// A number of 24 bits with a value in the bits above the last `below`, so many.
+fn blend(old: u64, width: usize, below: usize, value: u64) -> u64
+    requires { (width + below ≤ 24) × (value < 2 ^ width) × (old < 2 ^ 24) }
+    ensures { result ≡ (old / 2 ^ (width + below) * 2 ^ width + value) * 2 ^ below + old % 2 ^ below }
 {
-    ((((old >> (w + below)) << w) | v) << below) | (old & ((1 << below) - 1))
+    ((((old >> (width + below)) << width) | value) << below) | (old & ((1 << below) - 1))
 }
 
-// A number of 24 bits into the three bytes from i on, as far as they are there.
-fn store(buf: &mut [u8], i: usize, x: u64)
-    requires { (i < length buf.old) × (x < 2 ^ 24) }
-    ensures { buf.new ≡ set (set (set buf.old i (x / 2 ^ 16)) (i + 1) (x / 2 ^ 8 % 2 ^ 8)) (i + 2) (x % 2 ^ 8) }
+// A number of 24 bits into the three bytes from a place on, as far as they are there.
+fn store(buf: &mut [u8], from: usize, number: u64)
+    requires { (from < length buf.old) × (number < 2 ^ 24) }
+    ensures { buf.new ≡ set (set (set buf.old from (number / 2 ^ 16)) (from + 1) (number / 2 ^ 8 % 2 ^ 8)) (from + 2) (number % 2 ^ 8) }
 {
-    set_byte(buf, i, x >> 16);
-    set_byte(buf, i + 1, (x >> 8) & 255);
-    set_byte(buf, i + 2, x & 255);
+    set_byte(buf, from, number >> 16);
+    set_byte(buf, from + 1, (number >> 8) & 255);
+    set_byte(buf, from + 2, number & 255);
 }
 
-// A field of w bits into the bits from p on; it and the bits around it lie in three bytes.
-pub(crate) fn put(buf: &mut [u8], p: usize, w: usize, v: u64)
-    requires { (1 ≤ w) × (w ≤ 16) × (v < 2 ^ w) × (p + w ≤ 8 * length buf.old) × (p ≤ 65536) }
-    ensures { bits_of buf.new ≡ overlaid (bits_of buf.old) p (bits w v) }
+// A field into the bits from a bit on; it and the bits around it lie in three bytes.
+pub(crate) fn put(buf: &mut [u8], at: usize, width: usize, value: u64)
+    requires { (1 ≤ width) × (width ≤ 16) × (value < 2 ^ width) × (at + width ≤ 8 * length buf.old) × (at ≤ 65536) }
+    ensures { bits_of buf.new ≡ overlaid (bits_of buf.old) at (bits width value) }
 {
-    let x = blend(bytes_at(buf, p / 8, 3), w, 24 - p % 8 - w, v);
-    store(buf, p / 8, x);
+    let old = bytes_at(buf, at / 8, 3);
+    store(buf, at / 8, blend(old, width, 24 - at % 8 - width, value));
 }
 
-// The first w bits of a word into the bits from p on.
-pub(crate) fn put_word(buf: &mut [u8], p: usize, w: usize, x: u64)
-    requires { (w ≤ 64) × (p + w ≤ 8 * length buf.old) × (p ≤ 65000) }
-    ensures { bits_of buf.new ≡ overlaid (bits_of buf.old) p (take w (bits 64 x)) }
+// The first bits of a word, so many, into the bits from a bit on, sixteen at a time.
+pub(crate) fn put_word(buf: &mut [u8], at: usize, width: usize, word: u64)
+    requires { (width ≤ 64) × (at + width ≤ 8 * length buf.old) × (at ≤ 65000) }
+    ensures { bits_of buf.new ≡ overlaid (bits_of buf.old) at (take width (bits 64 word)) }
 {
-    let mut i = 0;
-    while i < w {
-        let k = (w - i).min(16);
-        put(buf, p + i, k, field(x, i, k));
-        i += k;
+    for from in (0..width).step_by(16) {
+        let count = (width - from).min(16);
+        put(buf, at + from, count, field(word, from, count));
     }
 }

@@ -16,6 +16,7 @@ mod writing;
 
 use edition::Edition;
 use layout::Layout;
+use reading::Part;
 use refusals::Refusal;
 
 // What a tape holds: its first boxes, and how many words of the row its steps take.
@@ -51,7 +52,11 @@ pub fn read_tape(tape: &[u8], row: &mut [u64]) -> Result<Recorded, Refusal>
     if row.len() < recorded.steps {
         return Err(Refusal::RowTooShort);
     }
-    reading::fill_row(Edition::First, &tape[2..], row);
+    let part = Part {
+        edition: Edition::First,
+        bytes: &tape[2..],
+    };
+    part.fill_row(row);
     Ok(recorded)
 }
 
@@ -62,8 +67,8 @@ pub fn write_tape(first: u16, words: &[u64], buf: &mut [u8]) -> Result<usize, Re
     if first == 0 {
         return Err(Refusal::NoFirstBox);
     }
-    let n = writing::measure(Edition::First, words).ok_or(Refusal::NoStep)?;
-    let size = 2 + writing::bytes_for(Edition::First, n);
+    let count = writing::measure(Edition::First, words).ok_or(Refusal::NoStep)?;
+    let size = 2 + writing::bytes_for(Edition::First, count);
     if 4096 < size {
         return Err(Refusal::TapeTooLong);
     }

@@ -1,12 +1,12 @@
 // The tape as it is read: first a pass that finds what is wrong with it, and only then a pass that fills the row.
-ghost use Rattle.std.specs.Prelude.{◌≡◌, ◌*◌, ◌≤◌, ◌++◌, Ok, length, take, drop};
+ghost use Rattle.std.specs.Prelude.{◌≡◌, ◌*◌, ◌≤◌, Ok, length, take, drop};
 ghost use Rattle.tape.specs.Bits.{num, bits, bits_of};
 ghost use Rattle.tape.specs.Edition.{edition_of};
 ghost use Rattle.tape.specs.Reading.{end_at, end_or, read_at, start, read_steps, read_in, head_of, boxes_in, words_of};
-ghost use Rattle.tape.specs.Promises.{counted, ended_at, recorded_as};
+ghost use Rattle.tape.specs.Promises.{counted, ended_at, recorded_as, held_by};
 
 use crate::Recorded;
-use crate::bits::{ahead, bytes_at, field, top};
+use crate::bits::{ahead, eight_at, field, top};
 use crate::edition::Edition;
 use crate::layout::Layout;
 use refusals::Refusal;
@@ -32,14 +32,14 @@ impl Reading {
 }
 
 // Behind the end mark, which takes the first bits of a word: zero bits to the byte's edge, so many being left.
-fn tail(x: u64, mark: usize, left: usize) -> Reading
+fn tail(word: u64, mark: usize, left: usize) -> Reading
     requires { mark ≤ 6 }
-    ensures { result ≡ end_at (take left (drop mark (bits 64 x))) 0 }
+    ensures { result ≡ end_at (take left (drop mark (bits 64 word))) 0 }
 {
     if 8 <= left {
         return Reading::Refused(Refusal::BehindTheEnd);
     }
-    if field(x, mark, left) == 0 {
+    if field(word, mark, left) == 0 {
         Reading::End
     } else {
         Reading::Refused(Refusal::BehindTheEnd)
@@ -47,61 +47,81 @@ fn tail(x: u64, mark: usize, left: usize) -> Reading
 }
 
 // What stands where no step of a kind is, a word having so many bits from there on: the end, by the end mark, or else this refusal.
-fn end_or(edition: Edition, kind: u64, x: u64, left: usize, refusal: Refusal) -> Reading
-    requires { kind ≡ num (take 3 (bits 64 x)) }
-    ensures { result ≡ end_or (edition_of edition) x left refusal }
+fn end_or(edition: Edition, kind: u64, word: u64, left: usize, refusal: Refusal) -> Reading
+    requires { kind ≡ num (take 3 (bits 64 word)) }
+    ensures { result ≡ end_or (edition_of edition) word left refusal }
 {
     let mark = edition.mark();
-    if kind != mark.kind {
+    if kind != mark.kind || left < mark.width || field(word, 3, mark.width - 3) != mark.rest {
         return Reading::Refused(refusal);
     }
-    if left < mark.width {
-        return Reading::Refused(refusal);
-    }
-    if field(x, 3, mark.width - 3) != mark.rest {
-        return Reading::Refused(refusal);
-    }
-    tail(x, mark.width, left - mark.width)
+    tail(word, mark.width, left - mark.width)
 }
 
-// What stands at bit p. A step is looked for first: none of any edition begins with the end mark.
-fn read_step(edition: Edition, s: &[u8], p: usize) -> Reading
-    requires { (p ≤ 8 * length s.now) × (length s.now ≤ 4096) }
-    ensures { result ≡ read_at (edition_of edition) (bits_of s.now) p }
-{
-    let left = 8 * s.len() - p;
-    let x = ahead(s, p);
-    if left < 3 {
-        return Reading::Refused(Refusal::EndsTooSoon);
-    }
-    let kind = field(x, 0, 3);
-    let Some(layout) = Layout::of(edition, kind) else {
-        return end_or(edition, kind, x, left, Refusal::NoStep);
-    };
-    if left < layout.width {
-        return end_or(edition, kind, x, left, Refusal::EndsTooSoon);
-    }
-    let word = top(x, layout.width);
-    if layout.allows(word) {
-        return Reading::Step(word, p + layout.width);
-    }
-    end_or(edition, kind, x, left, Refusal::NoStep)
+// The part of a tape from the third byte on, behind a whole head: it holds the steps.
+#[derive(Clone, Copy)]
+pub(crate) struct Part<'a> {
+    pub(crate) edition: Edition,
+    pub(crate) bytes: &'a [u8],
+    ghost short: { length bytes.now ≤ 4096 },
+    ghost begun: { start (edition_of edition) ≤ 8 * length bytes.now },
 }
 
-// How many steps the part from the third byte on has.
-fn count_steps(edition: Edition, s: &[u8]) -> Result<usize, Refusal>
-    requires { (length s.now ≤ 4096) × (start (edition_of edition) ≤ 8 * length s.now) }
-    ensures { result ≡ counted 0 (read_steps (edition_of edition) (bits_of s.now)) }
-{
-    let mut p = edition.start();
-    let mut n = 0;
-    loop {
-        let reading = read_step(edition, s, p);
-        let Reading::Step(_, next) = reading else {
-            return reading.ended(n);
+impl Part<'_> {
+    // What stands at a bit. A step is looked for first: none of any edition begins with the end mark.
+    fn read_step(self, at: usize) -> Reading
+        requires { at ≤ 8 * length self.bytes.now }
+        ensures { result ≡ read_at (edition_of self.entry.edition) (bits_of self.entry.bytes.now) at }
+    {
+        let left = 8 * self.bytes.len() - at;
+        let window = ahead(self.bytes, at);
+        if left < 3 {
+            return Reading::Refused(Refusal::EndsTooSoon);
+        }
+        let kind = field(window, 0, 3);
+        let Some(layout) = Layout::of(self.edition, kind) else {
+            return end_or(self.edition, kind, window, left, Refusal::NoStep);
         };
-        p = next;
-        n += 1;
+        if left < layout.width {
+            return end_or(self.edition, kind, window, left, Refusal::EndsTooSoon);
+        }
+        let word = top(window, layout.width);
+        if layout.allows(word) {
+            return Reading::Step(word, at + layout.width);
+        }
+        end_or(self.edition, kind, window, left, Refusal::NoStep)
+    }
+
+    // How many steps it has, or what is wrong with it.
+    fn count_steps(self) -> Result<usize, Refusal>
+        ensures { result ≡ counted 0 (read_steps (edition_of self.entry.edition) (bits_of self.entry.bytes.now)) }
+    {
+        let mut at = self.edition.start();
+        let mut steps = 0;
+        loop {
+            let reading = self.read_step(at);
+            let Reading::Step(_, next) = reading else {
+                return reading.ended(steps);
+            };
+            at = next;
+            steps += 1;
+        }
+    }
+
+    // Its step words into a row that is long enough.
+    pub(crate) fn fill_row(self, row: &mut [u64])
+        requires good { read_steps (edition_of self.edition) (bits_of self.bytes.now) ≡ Ok (words_of (read_steps (edition_of self.edition) (bits_of self.bytes.now))) }
+        requires room { length (words_of (read_steps (edition_of self.edition) (bits_of self.bytes.now))) ≤ length row.old }
+        ensures { row.new ≡ held_by row.old (read_steps (edition_of self.entry.edition) (bits_of self.entry.bytes.now)) }
+    {
+        let mut at = self.edition.start();
+        for place in row.iter_mut() {
+            let Reading::Step(word, next) = self.read_step(at) else {
+                return;
+            };
+            *place = word;
+            at = next;
+        }
     }
 }
 
@@ -111,7 +131,7 @@ fn first_boxes(edition: Edition, tape: &[u8]) -> u16
     ensures { result ≡ boxes_in (edition_of edition) tape.now }
 {
     let from = edition.head().boxes;
-    field(bytes_at(tape, from / 8, 8), from % 8, 16) as u16
+    field(eight_at(tape, from / 8), from % 8, 16) as u16
 }
 
 // The first boxes, or what is wrong with a tape before its steps.
@@ -136,21 +156,10 @@ pub(crate) fn check(edition: Edition, tape: &[u8]) -> Result<Recorded, Refusal>
     ensures { result ≡ recorded_as (boxes_in (edition_of edition) tape.now) (read_in (edition_of edition) tape.now) }
 {
     let first = head(edition, tape)?;
-    let steps = count_steps(edition, &tape[2..])?;
+    let part = Part {
+        edition,
+        bytes: &tape[2..],
+    };
+    let steps = part.count_steps()?;
     Ok(Recorded { first, steps })
-}
-
-// The step words of the part from the third byte on into a row that is long enough.
-pub(crate) fn fill_row(edition: Edition, s: &[u8], row: &mut [u64])
-    requires { (length s.now ≤ 4096) × (start (edition_of edition) ≤ 8 * length s.now) × (read_steps (edition_of edition) (bits_of s.now) ≡ Ok (words_of (read_steps (edition_of edition) (bits_of s.now)))) × (length (words_of (read_steps (edition_of edition) (bits_of s.now))) ≤ length row.old) }
-    ensures { row.new ≡ words_of (read_steps (edition_of edition) (bits_of s.now)) ++ drop (length (words_of (read_steps (edition_of edition) (bits_of s.now)))) row.old }
-{
-    let mut p = edition.start();
-    for place in row.iter_mut() {
-        let Reading::Step(word, next) = read_step(edition, s, p) else {
-            return;
-        };
-        *place = word;
-        p = next;
-    }
 }

@@ -21,22 +21,22 @@ pub(crate) fn measure(edition: Edition, words: &[u64]) -> Option<usize>
     Some(total)
 }
 
-// The bytes from the third on of a tape whose steps take n bits.
-pub(crate) fn bytes_for(edition: Edition, n: usize) -> usize
-    requires { n ≤ 40000 }
-    ensures { result ≡ bytes_for (edition_of edition) n }
+// The bytes from the third on of a tape whose steps take so many bits.
+pub(crate) fn bytes_for(edition: Edition, count: usize) -> usize
+    requires { count ≤ 40000 }
+    ensures { result ≡ bytes_for (edition_of edition) count }
 {
-    (edition.start() + n + edition.mark().width + 7) / 8
+    (edition.start() + count + edition.mark().width + 7) / 8
 }
 
-// The end mark at bit p, and zero bits to the byte's edge.
-fn put_end(edition: Edition, buf: &mut [u8], p: usize)
-    requires { (p ≤ 65000) × (p + length (ending (edition_of edition) p) ≤ 8 * length buf.old) }
-    ensures { bits_of buf.new ≡ overlaid (bits_of buf.old) p (ending (edition_of edition) p) }
+// The end mark at a bit, and zero bits to the byte's edge.
+fn put_end(edition: Edition, buf: &mut [u8], at: usize)
+    requires { (at ≤ 65000) × (at + length (ending (edition_of edition) at) ≤ 8 * length buf.old) }
+    ensures { bits_of buf.new ≡ overlaid (bits_of buf.old) at (ending (edition_of edition) at) }
 {
     let mark = edition.mark();
-    let zeros = (8 - (p + mark.width) % 8) % 8;
-    put(buf, p, mark.width + zeros, mark.number << zeros);
+    let zeros = (8 - (at + mark.width) % 8) % 8;
+    put(buf, at, mark.width + zeros, mark.number << zeros);
 }
 
 // The steps and the end mark into a buffer, from where the steps begin.
@@ -44,13 +44,13 @@ fn pack_steps(edition: Edition, buf: &mut [u8], words: &[u64])
     requires { (length (body (edition_of edition) words.now) ≤ 40000) × (start (edition_of edition) + length (steps_part (edition_of edition) words.now) ≤ 8 * length buf.old) }
     ensures { bits_of buf.new ≡ overlaid (bits_of buf.old) (start (edition_of edition)) (steps_part (edition_of edition) words.now) }
 {
-    let mut p = edition.start();
+    let mut at = edition.start();
     for &word in words {
         let width = step_width(edition, word).unwrap_or(0);
-        put_word(buf, p, width, word);
-        p += width;
+        put_word(buf, at, width, word);
+        at += width;
     }
-    put_end(edition, buf, p);
+    put_end(edition, buf, at);
 }
 
 // A tape of the first edition: the first boxes, and the steps into the part behind these two bytes.

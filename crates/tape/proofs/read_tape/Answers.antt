@@ -2,17 +2,17 @@
 use native.Mathlib.Omega.{arith}
 use mathlib.Core.Path.{◌≡◌, sym, ap, ◌∙◌}
 use Prim.Native.Nat.{ℕ, ◌-◌}
-use mathlib.Core.List.{List, [], ◌∷◌, ◌++◌}
+use mathlib.Core.List.{List, [], ◌∷◌}
 use lib.ListN.{length, take, drop, length-drop}
 use Rattle.std.specs.Prelude.{Ok}
 use Rattle.tape.specs.Bits.{bits_of}
 use Rattle.tape.specs.Edition.{first_edition}
 use Rattle.tape.specs.Reading.{words_of, read_steps, first_boxes, read_tape}
-use Rattle.tape.specs.Promises.{read_answer, recorded}
+use Rattle.tape.specs.Promises.{read_answer, recorded, held_by}
 use Rattle.tape.specs.declared.Recorded.{Recorded}
 use Rattle.tape.proofs.LayLaws.{part-from}
 use Rattle.tape.proofs.PromiseLaws.{handed-on, refused-is, recorded-is, refusal-kept, short-kept, success-kept}
-use Rattle.tape.proofs.TapeLaws.{GoodHead, head-given, part-reads}
+use Rattle.tape.proofs.TapeLaws.{GoodHead, head-there, head-given, part-reads}
 use Rattle.tape.proofs.read_tape.Goals.{In_ok-recorded}
 use Rattle.tape.proofs.read_tape.Goals as goal
 
@@ -50,19 +50,24 @@ returns-then-row-recorded c =
     let p = short-kept c.args.row.now (values s) (read_tape s) (words_of (read_tape s)) (accepted at.In_ok-recorded).is (omega (arith, c.if-row-recorded.true, count at.In_ok-recorded)) in
     record { told = p.told; row_is = p.held }
 
-pub slice_bounds-fill_row-count : goal.slice_bounds-fill_row-count
-slice_bounds-fill_row-count c = let g = (accepted (goal.at.slice_bounds-fill_row-count c).In_ok-recorded).good in omega (arith, g.least)
+pub slice_bounds-part-count : goal.slice_bounds-part-count
+slice_bounds-part-count c = let g = (accepted (goal.at.slice_bounds-part-count c).In_ok-recorded).good in omega (arith, g.least)
 
-pub slice_bounds-fill_row-start : goal.slice_bounds-fill_row-start
-slice_bounds-fill_row-start c = let g = (accepted (goal.at.slice_bounds-fill_row-start c).In_ok-recorded).good in omega (arith, g.least)
+pub slice_bounds-part-start : goal.slice_bounds-part-start
+slice_bounds-part-start c = let g = (accepted (goal.at.slice_bounds-part-start c).In_ok-recorded).good in omega (arith, g.least)
+
+pub invariant_of-part : goal.invariant_of-part
+invariant_of-part c =
+    let g = (accepted (goal.at.invariant_of-part c).In_ok-recorded).good in
+    let s = c.args.tape.now in
+    record { short = rw (part-from 2 s, length-drop) (omega (arith, g.most)); begun = rw (part-from 2 s, length-drop) (head-there first_edition s g).2 }
 
 pub fill_row-requires : goal.fill_row-requires
 fill_row-requires c =
     let at = goal.at.fill_row-requires c in
     let k = accepted at.In_ok-recorded in
-    let s = c.args.tape.now in
     let n = ap (λ o. length (words_of o)) k.same in
-    (rw (part-from 2 s, length-drop) (omega (arith, k.good.most)), omega arith, k.same ∙ k.is ∙ ap (λ o. Ok (words_of o)) (sym k.same), omega (arith, n, c.if-row-recorded.false, count at.In_ok-recorded))
+    record { good = k.same ∙ k.is ∙ ap (λ o. Ok (words_of o)) (sym k.same); room = omega (arith, n, c.if-row-recorded.false, count at.In_ok-recorded) }
 
 pub returns : goal.returns
 returns c =
@@ -73,5 +78,5 @@ returns c =
     let p = success-kept row (values s) (read_tape s) (words_of (read_tape s)) k.is (omega (arith, c.if-row-recorded.false, count at.In_ok-recorded)) in
     record {
       told = ap (λ r. read_answer (Ok r)) k.holds ∙ p.told;
-      row_is = c.fill_row.ensures ∙ ap (λ o. words_of o ++ drop (length (words_of o)) row) k.same ∙ p.held;
+      row_is = c.fill_row.ensures ∙ ap (held_by row) k.same;
     }

@@ -17,7 +17,7 @@ use Rattle.tape.proofs.BitLaws.{length-bits}
 use Rattle.tape.proofs.LayLaws.{unlaid}
 use Rattle.tape.proofs.PromiseLaws.{handed-on, refusal-kept, short-kept, success-kept}
 use Rattle.tape.proofs.WritingLaws.{length-tape, tape-bits, measured-is, measured-none, write-boxless, write-stepless, write-long, write-good, size-capped, size-over}
-use Rattle.tape.proofs.write_tape.Goals.{After-bytes_for-size, In_ok-n}
+use Rattle.tape.proofs.write_tape.Goals.{After-bytes_for-size, In_ok-count}
 use Rattle.tape.proofs.write_tape.Goals as goal
 
 abbrev length_of : List ℕ → List ℕ
@@ -58,14 +58,14 @@ record Planned (xs : List ℕ) (n r : ℕ) : Type 0 where
   over : 4096 < 2 + r → 4096 < 2 + size first_edition xs
   fits : 2 + r ≤ 4096 → (n ≡ length (body first_edition xs)) × (2 + r ≡ 2 + size first_edition xs)
 
-counted : (c : In_ok-n) → (all_steps first_edition c.args.words.now ≡ true) × (c.in_ok-n.n ≡ min (length (body first_edition c.args.words.now)) 40000)
-counted c = measured-is first_edition c.args.words.now c.in_ok-n.n (sym c.in_ok-n.ensures.ok_part ∙ c.measure.ensures)
+counted : (c : In_ok-count) → (all_steps first_edition c.args.words.now ≡ true) × (c.in_ok-count.count ≡ min (length (body first_edition c.args.words.now)) 40000)
+counted c = measured-is first_edition c.args.words.now c.in_ok-count.count (sym c.in_ok-count.ensures.ok_part ∙ c.measure.ensures)
 
-planned : (c : After-bytes_for-size) → Planned c.args.words.now c.in_ok-n.n c.bytes_for-size.result
+planned : (c : After-bytes_for-size) → Planned c.args.words.now c.in_ok-count.count c.bytes_for-size.result
 planned c =
-    let n = c.in_ok-n.n in
+    let n = c.in_ok-count.count in
     let b = length (body first_edition c.args.words.now) in
-    let m = counted (goal.at.After-bytes_for-size c).In_ok-n in
+    let m = counted (goal.at.After-bytes_for-size c).In_ok-count in
     let e = c.bytes_for-size.ensures in
     record {
       all = m.0;
@@ -78,21 +78,21 @@ returns-then-first-eq0 c =
     let a = c.args in
     turned a.first a.words.now a.buf.now NoFirstBox (write-boxless a.first a.words.now c.if-first-eq0.true)
 
-pub returns-in_err-n : goal.returns-in_err-n
-returns-in_err-n c =
+pub returns-in_err-count : goal.returns-in_err-count
+returns-in_err-count c =
     let a = c.args in
-    let n = c.in_err-n.ensures in
-    let e : c.in_err-n.field-0.0 ≡ NoStep = let h = n.value ∙ ap (λ o. ok_or o NoStep) n.ok_part in cc in
+    let n = c.in_err-count.ensures in
+    let e : c.in_err-count.field-0.0 ≡ NoStep = let h = n.value ∙ ap (λ o. ok_or o NoStep) n.ok_part in cc in
     let none = measured-none first_edition a.words.now (sym n.ok_part ∙ c.measure.ensures) in
-    subst (λ r. WritePromise a.first a.words.now a.buf.now r a.buf.now) (sym (handed-on c.from_residual.result c.in_err-n.field-0.0 c.from_residual.ensures.1 ∙ ap Err e))
+    subst (λ r. WritePromise a.first a.words.now a.buf.now r a.buf.now) (sym (handed-on c.from_residual.result c.in_err-count.field-0.0 c.from_residual.ensures.1 ∙ ap Err e))
     (turned a.first a.words.now a.buf.now NoStep (write-stepless a.first a.words.now c.if-first-eq0.false none))
 
 pub bytes_for-size-requires : goal.bytes_for-size-requires
-bytes_for-size-requires c = omega (arith, (counted (goal.at.bytes_for-size-requires c).In_ok-n).1)
+bytes_for-size-requires c = omega (arith, (counted (goal.at.bytes_for-size-requires c).In_ok-count).1)
 
 pub overflow_add-size : goal.overflow_add-size
 unfolding bytes_for
-overflow_add-size c = omega (arith, c.bytes_for-size.ensures, (counted (goal.at.overflow_add-size c).In_ok-n).1)
+overflow_add-size c = omega (arith, c.bytes_for-size.ensures, (counted (goal.at.overflow_add-size c).In_ok-count).1)
 
 pub returns-then-size-gt4096 : goal.returns-then-size-gt4096
 returns-then-size-gt4096 c =
@@ -111,7 +111,7 @@ pub lay_tape-requires : goal.lay_tape-requires
 lay_tape-requires c =
     let at = goal.at.lay_tape-requires c in
     let z = (planned at.After-bytes_for-size).fits c.if-size-gt4096.false in
-    (omega (arith, z.0, (counted at.In_ok-n).1), omega (arith, z.1, c.if-buf-size.false))
+    (omega (arith, z.0, (counted at.In_ok-count).1), omega (arith, z.1, c.if-buf-size.false))
 
 pub returns : goal.returns
 returns c =

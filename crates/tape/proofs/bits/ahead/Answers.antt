@@ -5,4 +5,4 @@ use Rattle.tape.proofs.bits.ahead.Goals as goal
 pub returns : goal.returns
 returns c =
     let a = c.args in
-    ahead-is a.s.now a.p c.eight_at.result c.eight_at.ensures
+    ahead-is a.bytes.now a.at c.eight_at.result c.eight_at.ensures

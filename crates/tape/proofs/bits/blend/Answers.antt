@@ -19,4 +19,4 @@ blended old w sh v h hv ho =
     hh = lt_of_le_of_lt (shr_le old (w + sh)) ho
 
 pub returns : goal.returns
-returns c = blended c.args.old c.args.w c.args.below c.args.v c.requires.0 c.requires.1 c.requires.2
+returns c = blended c.args.old c.args.width c.args.below c.args.value c.requires.0 c.requires.1 c.requires.2

@@ -15,4 +15,4 @@ loop-k-preserved c =
     let l = c.loop-k in
     let a = c.args in
     let b = c.byte_at in
-    window-join l.k 1 a.s.now a.i l.x b.result (omega arith) l.invariant (window-one a.s.now (a.i + l.k) b.result b.ensures.0 b.ensures.1)
+    window-join l.k 1 a.bytes.now a.from l.number b.result (omega arith) l.invariant (window-one a.bytes.now (a.from + l.k) b.result b.ensures.0 b.ensures.1)

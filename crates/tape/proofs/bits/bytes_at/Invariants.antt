@@ -4,4 +4,4 @@ use Rattle.tape.specs.Bits.{num, window}
 use Rattle.tape.proofs.bits.bytes_at.Given as goal
 
 abbrev pub invariant-loop-k : goal.invariant-loop-k
-invariant-loop-k l = l.x ≡ num (window l.k l.s l.i)
+invariant-loop-k l = l.number ≡ num (window l.k l.bytes l.from)

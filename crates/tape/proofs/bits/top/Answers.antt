@@ -3,4 +3,4 @@ use Rattle.tape.proofs.WordLaws.{word-top}
 use Rattle.tape.proofs.bits.top.Goals as goal
 
 pub returns : goal.returns
-returns c = word-top c.args.x c.args.w c.ranges.x.fits c.requires.1
+returns c = word-top c.args.whole c.args.width c.ranges.whole.fits c.requires.1

@@ -23,19 +23,19 @@ returns-in_err-first c =
     let e = c.in_err-first.field-0.0 in
     handed-on c.from_residual.result e c.from_residual.ensures.1 ∙ sym (ap (recorded_as (boxes_in ed s)) (read-bad ed s e (sym c.in_err-first.ensures)))
 
-pub slice_bounds-count_steps-count : goal.slice_bounds-count_steps-count
-slice_bounds-count_steps-count c = (head-there (edition_of c.args.edition) c.args.tape.now (good (goal.at.slice_bounds-count_steps-count c).In_ok-first)).0
+pub slice_bounds-part-count : goal.slice_bounds-part-count
+slice_bounds-part-count c = (head-there (edition_of c.args.edition) c.args.tape.now (good (goal.at.slice_bounds-part-count c).In_ok-first)).0
 
-pub slice_bounds-count_steps-start : goal.slice_bounds-count_steps-start
-slice_bounds-count_steps-start c =
-    let t = head-there (edition_of c.args.edition) c.args.tape.now (good (goal.at.slice_bounds-count_steps-start c).In_ok-first) in
+pub slice_bounds-part-start : goal.slice_bounds-part-start
+slice_bounds-part-start c =
+    let t = head-there (edition_of c.args.edition) c.args.tape.now (good (goal.at.slice_bounds-part-start c).In_ok-first) in
     omega (arith, t.0)
 
-pub count_steps-requires : goal.count_steps-requires
-count_steps-requires c =
-    let g = good (goal.at.count_steps-requires c).In_ok-first in
+pub invariant_of-part : goal.invariant_of-part
+invariant_of-part c =
+    let g = good (goal.at.invariant_of-part c).In_ok-first in
     let s = c.args.tape.now in
-    (rw (part-from 2 s, length-drop) (omega (arith, g.most)), rw (part-from 2 s, length-drop) (head-there (edition_of c.args.edition) s g).2)
+    record { short = rw (part-from 2 s, length-drop) (omega (arith, g.most)); begun = rw (part-from 2 s, length-drop) (head-there (edition_of c.args.edition) s g).2 }
 
 pub returns-in_err-steps : goal.returns-in_err-steps
 returns-in_err-steps c =

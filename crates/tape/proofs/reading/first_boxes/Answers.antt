@@ -26,9 +26,9 @@ boxes ed s h x n l e f g =
 pub overflow_cast-result : goal.overflow_cast-result
 overflow_cast-result c =
     let p = c.head-from.result.boxes in
-    omega (arith, c.field.ensures, field_lt c.bytes_at.result (p % 8) 16 (omega arith))
+    omega (arith, c.field.ensures, field_lt c.eight_at.result (p % 8) 16 (omega arith))
 
 pub returns : goal.returns
 returns c =
     let h = c.head-from in
-    boxes (edition_of c.args.edition) c.args.tape.now h.result c.bytes_at.result c.field.result c.requires h.ensures c.bytes_at.ensures c.field.ensures
+    boxes (edition_of c.args.edition) c.args.tape.now h.result c.eight_at.result c.field.result c.requires h.ensures c.eight_at.ensures c.field.ensures

@@ -8,5 +8,5 @@ use Rattle.tape.proofs.writing.bytes_for.Goals as goal
 pub returns : goal.returns
 unfolding bytes_for
 returns c =
-    let n = c.args.n in
+    let n = c.args.count in
     ap₂ (λ s w. (s + n + w + 7) / 8) c.start.ensures (ap (λ (m : Mark). m.width) c.mark.ensures)

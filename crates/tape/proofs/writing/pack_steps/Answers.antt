@@ -70,11 +70,11 @@ width c =
     c.unwrap_or-width.ensures ∙ ap (λ w. unwrap_or w 0) c.step_width.ensures ∙ width-or-none ed x
 
 -- the step before which the loop stands
-one : (c : After-unwrap_or-width) → (c.unwrap_or-width.result ≤ 64) × (c.loop-word.p + c.unwrap_or-width.result ≤ 8 * length c.loop-word.buf) × (c.loop-word.p + c.unwrap_or-width.result ≤ 40064)
+one : (c : After-unwrap_or-width) → (c.unwrap_or-width.result ≤ 64) × (c.loop-word.at + c.unwrap_or-width.result ≤ 8 * length c.loop-word.buf) × (c.loop-word.at + c.unwrap_or-width.result ≤ 40064)
 one c =
     let l = c.loop-word in
     let a = c.args in
-    fits (edition_of a.edition) a.words.now a.buf.now l.buf l.p l.word-index c.requires.0 c.requires.1 l.invariant (search rules) c.unwrap_or-width.result (width c)
+    fits (edition_of a.edition) a.words.now a.buf.now l.buf l.at l.word-index c.requires.0 c.requires.1 l.invariant (search rules) c.unwrap_or-width.result (width c)
 
 pub loop-word-init : goal.loop-word-init
 unfolding body
@@ -82,7 +82,7 @@ loop-word-init c =
     let ed = edition_of c.args.edition in
     record {
       some = search rules;
-      next = c.start-p.ensures ∙ sym (add-zero (start ed));
+      next = c.start-at.ensures ∙ sym (add-zero (start ed));
       same = refl;
       laid = sym (overlaid-nil (bits_of c.args.buf.now) (start ed));
     }
@@ -90,25 +90,25 @@ loop-word-init c =
 pub put_word-requires : goal.put_word-requires
 put_word-requires c = let f = one (goal.at.put_word-requires c).After-unwrap_or-width in (f.0, f.1, omega (arith, f.2))
 
-pub overflow_add-p : goal.overflow_add-p
-overflow_add-p c = omega (arith, (one (goal.at.overflow_add-p c).After-unwrap_or-width).2)
+pub overflow_add-at : goal.overflow_add-at
+overflow_add-at c = omega (arith, (one (goal.at.overflow_add-at c).After-unwrap_or-width).2)
 
 pub loop-word-preserved : goal.loop-word-preserved
 loop-word-preserved c =
     let l = c.loop-word in
     let a = c.args in
     let q = c.put_word in
-    further (edition_of a.edition) a.words.now a.buf.now l.buf l.p l.word-index c.requires.0 c.requires.1 l.invariant (search rules) c.unwrap_or-width.result (width (goal.at.loop-word-preserved c).After-unwrap_or-width) q.new.buf q.auto.buf q.ensures
+    further (edition_of a.edition) a.words.now a.buf.now l.buf l.at l.word-index c.requires.0 c.requires.1 l.invariant (search rules) c.unwrap_or-width.result (width (goal.at.loop-word-preserved c).After-unwrap_or-width) q.new.buf q.auto.buf q.ensures
 
 pub put_end-requires : goal.put_end-requires
 put_end-requires c =
     let l = c.loop-word in
     let a = c.args in
-    end_fits (edition_of a.edition) a.words.now a.buf.now l.buf l.p l.word-index c.requires.0 c.requires.1 l.invariant (search rules)
+    end_fits (edition_of a.edition) a.words.now a.buf.now l.buf l.at l.word-index c.requires.0 c.requires.1 l.invariant (search rules)
 
 pub returns : goal.returns
 returns c =
     let l = c.loop-word in
     let a = c.args in
     c.put_end.ensures
-    ∙ ended (edition_of a.edition) a.words.now a.buf.now l.buf l.p l.word-index c.requires.0 c.requires.1 l.invariant (search rules)
+    ∙ ended (edition_of a.edition) a.words.now a.buf.now l.buf l.at l.word-index c.requires.0 c.requires.1 l.invariant (search rules)

@@ -29,8 +29,8 @@ as-field ed p m e =
       long = sym (length-ending ed p);
     }
 
-at-end : (c : After-mark-mark) → Field (edition_of c.args.edition) c.args.p c.mark-mark.result
-at-end c = as-field (edition_of c.args.edition) c.args.p c.mark-mark.result c.mark-mark.ensures
+at-end : (c : After-mark-mark) → Field (edition_of c.args.edition) c.args.at c.mark-mark.result
+at-end c = as-field (edition_of c.args.edition) c.args.at c.mark-mark.result c.mark-mark.ensures
 
 least : (c : After-mark-mark) → c.mark-mark.result.width ≡ length (edition_of c.args.edition).mark
 least c = ap (λ (m : Mark). m.width) c.mark-mark.ensures
@@ -45,4 +45,4 @@ put-requires c =
 pub returns : goal.returns
 returns c =
     let a = c.args in
-    c.put.ensures ∙ ap (overlaid (bits_of a.buf.now) a.p) (at-end (goal.at.returns c).After-mark-mark).is
+    c.put.ensures ∙ ap (overlaid (bits_of a.buf.now) a.at) (at-end (goal.at.returns c).After-mark-mark).is

@@ -7,7 +7,7 @@ use Rattle.tape.specs.Bits.{bits_of}
 use Rattle.tape.specs.Edition.{Edition, edition_of}
 use Rattle.std.specs.Prelude.{Ok}
 use Rattle.tape.specs.Reading.{words_of, read_from, read_steps}
-use Rattle.tape.proofs.reading.fill_row.Given as goal
+use Rattle.tape.proofs.reading.Part.fill_row.Given as goal
 
 -- the words of the part from the third byte on
 abbrev pub xs : Edition → List ℕ → List ℕ
@@ -21,4 +21,4 @@ pub record Filled (ed : Edition) (s row₀ row : List ℕ) (p n : ℕ) : Type 0 
   pub laid : row ≡ take n (xs ed s) ++ drop n row₀
 
 abbrev pub invariant-loop-place : goal.invariant-loop-place
-invariant-loop-place l = Filled (edition_of l.edition) l.s l.initial.row l.row l.p l.place-index
+invariant-loop-place l = Filled (edition_of l.self.edition) l.self.bytes.now l.initial.row l.row l.at l.place-index

@@ -6,11 +6,11 @@ use Rattle.tape.specs.Bits.{bits_of}
 use Rattle.tape.specs.Edition.{edition_of}
 use Rattle.tape.specs.Reading.{read_from, read_steps}
 use Rattle.tape.specs.Promises.{counted}
-use Rattle.tape.proofs.reading.count_steps.Given as goal
+use Rattle.tape.proofs.reading.Part.count_steps.Given as goal
 
 abbrev pub invariant-loop-next : goal.invariant-loop-next
 invariant-loop-next l =
-    (l.p ≤ 8 * length l.s) × (l.n ≤ l.p) × (counted 0 (read_steps (edition_of l.edition) (bits_of l.s)) ≡ counted l.n (read_from (edition_of l.edition) (suc (length (bits_of l.s)) - l.n) (bits_of l.s) l.p))
+    (l.at ≤ 8 * length l.self.bytes.now) × (l.steps ≤ l.at) × (counted 0 (read_steps (edition_of l.self.edition) (bits_of l.self.bytes.now)) ≡ counted l.steps (read_from (edition_of l.self.edition) (suc (length (bits_of l.self.bytes.now)) - l.steps) (bits_of l.self.bytes.now) l.at))
 
 abbrev pub decreases-loop-next : goal.decreases-loop-next
-decreases-loop-next l = 8 * length l.s - l.p
+decreases-loop-next l = 8 * length l.self.bytes.now - l.at
