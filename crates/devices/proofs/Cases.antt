@@ -5,7 +5,7 @@ use mathlib.Core.Path.{◌≡◌, sym, ap, ◌∙◌}
 use native.Mathlib.Omega.{arith}
 use borrow.Author.Tests.{lt-ltb, le-ltb, le-leb, lt-leb}
 use Rattle.sets.specs.Sets.{union}
-use Rattle.sets.proofs.SetLaws.{one_shifted}
+use Rattle.std.proofs.lemmas.Nat.{one_shl}
 use Rattle.sets.proofs.BoundedLaws.{pick_true, pick-false}
 use Rattle.books.specs.declared.Notes.{Notes}
 use Rattle.books.specs.declared.Book.{Book}
@@ -44,7 +44,7 @@ addressed-as d p q = q ∙ ap (λ (x : Message). addressed x d) (sym p)
 -- ---- Sets of one
 
 pub only-in : (d : ℕ) → d < 24 → 1 * 2 ^ d % 4294967296 ≡ only d
-only-in d h = one_shifted d 32 (omega arith) ∙ pick_true (2 ^ d) 0 (lt-ltb d 24 h)
+only-in d h = one_shl d 32 (omega arith) ∙ pick_true (2 ^ d) 0 (lt-ltb d 24 h)
 
 pub only_out : (d : ℕ) → 24 ≤ d → 0 ≡ only d
 only_out d h = pick-false (2 ^ d) 0 (le-ltb d 24 h)
@@ -53,7 +53,7 @@ pub box-low : (d : ℕ) → d < 8 → 0 ≡ box_of d
 box-low d h = simp (lt-leb 8 d h)
 
 pub box_in : (d : ℕ) → 8 ≤ d → d < 24 → 1 * 2 ^ (d - 8) % 65536 ≡ box_of d
-box_in d h l = one_shifted (d - 8) 16 (omega arith) ∙ simp (le-leb 8 d h, lt-ltb d 24 l)
+box_in d h l = one_shl (d - 8) 16 (omega arith) ∙ simp (le-leb 8 d h, lt-ltb d 24 l)
 
 pub box-high : (d : ℕ) → 24 ≤ d → 0 ≡ box_of d
 box-high d h =

@@ -6,6 +6,7 @@ ghost use Rattle.devices.specs.Contents.{merged};
 ghost use Rattle.devices.specs.Effects.{number_of, kept_after, only, box_of, addressee, letter_to, addressed, is_empty, no_sending, refuse};
 
 use books::{Book, Config, Listed, Notes};
+use sets::Joins;
 
 #[derive(Clone, Copy)]
 pub struct Contents {
@@ -140,8 +141,8 @@ pub fn kept_after(outcome: Outcome, kept: Book) -> Book
     match outcome {
         Outcome::Done => kept,
         Outcome::Round(_) => kept,
-        Outcome::Committed(b) => books::join_books(kept, b),
-        Outcome::Adopted(b) => books::join_books(kept, b),
+        Outcome::Committed(b) => kept.join(b),
+        Outcome::Adopted(b) => kept.join(b),
         Outcome::Refused(_) => kept,
     }
 }
@@ -249,9 +250,9 @@ pub fn refuse_with(n: u8, h: Here) -> Effect
 pub fn merge(listed: Listed, mine: Contents, theirs: Contents) -> Contents
     ensures { result ≡ merged listed mine theirs }
 {
-    let v = books::join_books(mine.v, theirs.v);
-    let candidates = books::join_notes(mine.candidates, theirs.candidates);
-    let t = books::trim(listed, v.config, mine.t | theirs.t);
+    let v = mine.v.join(theirs.v);
+    let candidates = mine.candidates.join(theirs.candidates);
+    let t = listed.outside(v.config, mine.t.join(theirs.t));
     Contents {
         v: v,
         candidates: candidates,

@@ -88,8 +88,7 @@ pub fn place_of(name: u64) -> usize {
 }
 
 fn no_notes() -> Notes {
-    let none = books::no_book();
-    none.notes
+    Book::none().notes
 }
 
 pub fn pair(added: u64, removed: u64) -> Config {

@@ -1,5 +1,5 @@
 // One number of a whole run, to see that a refused step hands back the very state.
-use books::{Book, Config};
+use books::{Book, Config, Notes};
 use devices::{Asking, Contents, Floor, Letter, Message, Phase, Tablet};
 use state::Run;
 
@@ -14,12 +14,12 @@ fn with_config(sum: u64, config: Config) -> u64 {
 
 // Of notes each of these functions takes part k.
 fn with_book(sum: u64, book: Book, k: usize) -> u64 {
-    with_config(more(sum, books::notes_part(book.notes, k)), book.config)
+    with_config(more(sum, book.notes.part(k)), book.config)
 }
 
 fn with_contents(sum: u64, contents: Contents, k: usize) -> u64 {
     let v = with_book(more(sum, contents.t as u64), contents.v, k);
-    more(v, books::notes_part(contents.candidates, k))
+    more(v, contents.candidates.part(k))
 }
 
 fn with_floor(sum: u64, floor: Floor, k: usize) -> u64 {
@@ -34,7 +34,7 @@ fn with_asking(sum: u64, asking: Asking, k: usize) -> u64 {
     let saved = with_config(more(sum, sets), asking.config);
     let floor = asking.floor;
     with_floor(
-        more(saved, books::notes_part(asking.candidates, k)),
+        more(saved, asking.candidates.part(k)),
         floor,
         k,
     )
@@ -92,7 +92,7 @@ pub fn sum_of(run: Run) -> u64 {
     let mut sum = more(run.stopped as u64, run.first as u64);
     let mut i: usize = 0;
     // All the slots, once for each part of the notes.
-    while i < 128 * books::NOTE_PARTS {
+    while i < 128 * Notes::PARTS {
         let k = i / 128;
         sum = with_book(with_change_at(sum, run, i), run.kept, k);
         sum = with_tablet_at(with_device_at(sum, run, i, k), run, i, k);

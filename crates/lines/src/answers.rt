@@ -6,10 +6,10 @@ use streams::{Out, put, put_decimal, put_hex};
 // 16 digits for each part of the notes, the highest part first.
 fn put_notes(rt: &(impl Print + Eprint), buffer: &mut [u8; 4096], out: Out, notes: Notes) -> Out {
     let mut to = out;
-    let mut k = books::NOTE_PARTS;
+    let mut k = Notes::PARTS;
     while 0 < k {
         k -= 1;
-        to = put_hex(rt, buffer, to, books::notes_part(notes, k), 16);
+        to = put_hex(rt, buffer, to, notes.part(k), 16);
     }
     to
 }

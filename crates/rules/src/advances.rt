@@ -4,6 +4,7 @@ ghost use Rattle.rules.specs.Rules.{hands_back, floor_inside, decided, allowed, 
 
 use books::Book;
 use devices::{Asking, Effect, Floor, Here, Message, Notice, Outcome, Phase, Sending, Tablet};
+use sets::Joins;
 
 // The candidates with v's configuration joined with T.
 fn decide(h: Here) -> Book
@@ -11,7 +12,7 @@ fn decide(h: Here) -> Book
 {
     let c = h.contents;
     let notes = c.candidates;
-    let config = books::join_changes(h.listed, c.v.config, c.t);
+    let config = h.listed.joined_with(c.v.config, c.t);
     Book {
         notes: notes,
         config: config,
@@ -23,8 +24,8 @@ fn is_allowed(a: Asking, h: Here) -> bool
     ensures { result ≡ allowed a h }
 {
     let config = h.contents.v.config;
-    if books::same_config(config, a.config) {
-        return books::every_majority(h.listed, a.config, a.t, a.answered);
+    if config == a.config {
+        return h.listed.every_majority(a.config, a.t, a.answered);
     }
     true
 }
@@ -35,7 +36,7 @@ fn is_steady(a: Asking, h: Here) -> bool
 {
     let c = h.contents;
     let config = c.v.config;
-    books::same_config(config, a.config) & (c.t == a.t)
+    (config == a.config) & (c.t == a.t)
 }
 
 fn set_floor(floor: Floor, b: Book) -> Floor
@@ -91,7 +92,7 @@ fn reached(floor: Floor, v: Book) -> bool
 {
     match floor {
         Floor::Unset => false,
-        Floor::Set(b) => books::book_inside(b, v),
+        Floor::Set(b) => b.is_inside(v),
     }
 }
 
@@ -120,7 +121,7 @@ fn advance_from(tablet: u8, a: Asking, h: Here) -> Effect
     }
     let b = decide(h);
     let candidates = h.contents.candidates;
-    if books::same_notes(candidates, a.candidates) {
+    if candidates == a.candidates {
         return commit_rule(tablet, b, h);
     }
     adopt_or(tablet, set_floor(floor, b), h)

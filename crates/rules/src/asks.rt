@@ -2,8 +2,9 @@
 ghost use Rattle.std.specs.Prelude.{◌≡◌, ◌<◌, ◌^◌};
 ghost use Rattle.rules.specs.Rules.{ask_with, ask_pair, ask};
 
-use books::{Config, Listed};
+use books::{Config, Listed, Notes};
 use devices::{Contents, Effect, Floor, Here, Outcome, Phase};
+use sets::Joins;
 
 // The notes and the pair, as a set of listed changes, are merged in, and a round begins.
 fn ask_with(tablet: u8, own: u16, pair: u8, listed: Listed, h: Here) -> Effect
@@ -11,7 +12,7 @@ fn ask_with(tablet: u8, own: u16, pair: u8, listed: Listed, h: Here) -> Effect
 {
     let mine = h.contents;
     let v = mine.v;
-    let own = books::own_notes(tablet, own);
+    let own = Notes::own(tablet, own);
     let c = devices::merge(
         listed,
         mine,
@@ -38,10 +39,10 @@ fn ask_pair(tablet: u8, own: u16, pair: Config, h: Here) -> Effect
 {
     let v = h.contents.v;
     let listed = h.listed;
-    if books::config_inside(pair, v.config) {
+    if pair.is_inside(v.config) {
         return ask_with(tablet, own, 0, listed, h);
     }
-    let place = books::place_of(listed, pair);
+    let place = listed.place_of(pair);
     if place < listed.count {
         return ask_with(tablet, own, only_change(place), listed, h);
     }

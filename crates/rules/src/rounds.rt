@@ -23,7 +23,7 @@ pub(crate) fn begin(
         return devices::refuse_with(9, h);
     }
     let config = c.v.config;
-    let boxes = books::asked_boxes(listed, config, c.t);
+    let boxes = listed.asked_boxes(config, c.t);
     if h.free < sets::count_boxes(boxes) as usize {
         return devices::refuse_with(10, h);
     }

@@ -38,7 +38,7 @@ pub struct Stepped {
 fn fresh_run(first: u16) -> Run
     ensures { result ≡ fresh first }
 {
-    let none = books::no_book();
+    let none = Book::none();
     let notes = none.notes;
     let book = Book {
         notes: notes,
@@ -113,7 +113,7 @@ fn differs(listed: Listed, later: usize) -> bool
     let mut i: usize = 0;
     while i < later {
         let a = changes[i];
-        ok = ok & !books::same_config(a, b);
+        ok = ok & (a != b);
         i += 1;
     }
     ok

@@ -1,4 +1,3 @@
-use mathlib.Core.Bool.{Bool, not}
 use mathlib.Core.Path.{ap}
 use native.Mathlib.Omega.{arith}
 use Rattle.sets.specs.Choice.{both}
@@ -11,4 +10,4 @@ loop-i-init c = (omega arith, each-zero _)
 pub loop-i-preserved : goal.loop-i-preserved
 loop-i-preserved c =
     let l = c.loop-i in
-    (omega arith, each_on _ l.i l.invariant.1 (ap (λ (same : Bool). both l.ok (not same)) c.same_config.ensures))
+    (omega arith, each_on _ l.i l.invariant.1 (ap (both l.ok) c.ne-ok.ensures))

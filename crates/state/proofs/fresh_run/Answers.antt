@@ -2,4 +2,4 @@ use Rattle.state.proofs.Cases.{fresh_is}
 use Rattle.state.proofs.fresh_run.Goals as goal
 
 pub returns : goal.returns
-returns c = fresh_is _ c.no_book-none.ensures
+returns c = fresh_is _ c.none-none.ensures

@@ -3,4 +3,4 @@ use Rattle.rules.proofs.advances.is_steady.Goals as goal
 
 pub returns : goal.returns
 unfolding steady
-returns c = rw c.same_config.ensures
+returns c = rw c.eq.ensures
