@@ -33,11 +33,7 @@ fn with_asking(sum: u64, asking: Asking, k: usize) -> u64 {
     let sets = ((asking.t as u64) << 16) | asking.answered as u64;
     let saved = with_config(more(sum, sets), asking.config);
     let floor = asking.floor;
-    with_floor(
-        more(saved, asking.candidates.part(k)),
-        floor,
-        k,
-    )
+    with_floor(more(saved, asking.candidates.part(k)), floor, k)
 }
 
 fn with_tablet(sum: u64, tablet: Tablet, k: usize) -> u64 {
