@@ -56,7 +56,7 @@ impl Listed {
             .all(|queried| queried.has_majority(answered))
     }
 
-    // The boxes that are members of any queried configuration.
+    // The boxes that are members of any queried configuration. The walk stands here again: its closures have no type that a function could give.
     pub fn asked_boxes(self, config: Config, t: u8) -> u16
         ensures { result ≡ asked_boxes self config t }
     {

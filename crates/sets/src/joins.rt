@@ -30,6 +30,8 @@ pub trait Joins: Copy + PartialEq {
     ghost adds_nothing: { (a b : Self) → Self.eq (join_gives a b) b ≡ inside_gives a b };
 }
 
+// The three differ in their type alone: no bound says what `|` gives, and there are no macros of our own.
+
 // A set of listed changes.
 impl Joins for u8 {
     ghost join_gives = { union };

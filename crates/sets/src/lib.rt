@@ -24,7 +24,7 @@ pub fn count_boxes(boxes: u16) -> u32
     boxes.count_ones()
 }
 
-// Whether more than half of the members answered: yes or no for any three sets.
+// Whether more than half of the members answered: yes or no for any three sets, which are plain numbers since the tablet app calls it from C.
 pub fn majority(added: u16, removed: u16, answered: u16) -> bool
     ensures { result ≡ majority_of added removed answered }
 {

@@ -14,13 +14,12 @@ use Rattle.books.proofs.Listed.asked_boxes.Goals as goal
 
 pub returns : goal.returns
 returns c =
-    let a = c.args in
-    let end : c.min-end.result + 1 ≡ min a.t 63 + 1 = omega arith in
+    let end : c.min-end.result + 1 ≡ min c.args.t 63 + 1 = omega arith in
     fold_from_yields_List _ (λ (boxes : ℕ) (queried : Config). union boxes (members_of queried)) 0 c.fold.result c.fold.ensures.ran
-    (YieldsList-from_map _ (joined_with a.self a.config)
+    (YieldsList-from_map _ (joined_with c.args.self c.args.config)
     (YieldsList-at c.map.ensures.source
-    (YieldsList-from_filter _ (λ (subset : ℕ). inside subset a.t) (YieldsList-from_range 0 (min a.t 63 + 1) (min a.t 63 + 1) (cc) (omega arith))
+    (YieldsList-from_filter _ (λ (subset : ℕ). inside subset c.args.t) (YieldsList-from_range 0 (min c.args.t 63 + 1) (min c.args.t 63 + 1) (cc) (omega arith))
     c.filter.ensures.closure (λ x b q k. search (rules, tests))))
     c.map.ensures.closure (λ x r q k. search (rules, tests)))
     (λ b x r q k. search (rules, tests))
-    ∙ walked-boxes a.self a.config a.t
+    ∙ walked-boxes c.args.self c.args.config c.args.t

@@ -15,13 +15,12 @@ use Rattle.books.proofs.Listed.every_majority.Goals as goal
 
 pub returns : goal.returns
 returns c =
-    let a = c.args in
-    let end : c.min-end.result + 1 ≡ min a.t 63 + 1 = omega arith in
-    all_from_yields_List (λ (queried : Config). has_majority queried a.answered) _ _ c.all.result c.all.ensures.ran
-    (YieldsList-from_map _ (joined_with a.self a.config)
+    let end : c.min-end.result + 1 ≡ min c.args.t 63 + 1 = omega arith in
+    all_from_yields_List (λ (queried : Config). has_majority queried c.args.answered) _ _ c.all.result c.all.ensures.ran
+    (YieldsList-from_map _ (joined_with c.args.self c.args.config)
     (YieldsList-at c.map.ensures.source
-    (YieldsList-from_filter _ (λ (subset : ℕ). inside subset a.t) (YieldsList-from_range 0 (min a.t 63 + 1) (min a.t 63 + 1) (cc) (omega arith))
+    (YieldsList-from_filter _ (λ (subset : ℕ). inside subset c.args.t) (YieldsList-from_range 0 (min c.args.t 63 + 1) (min c.args.t 63 + 1) (cc) (omega arith))
     c.filter.ensures.closure (λ x b q k. search (rules, tests))))
     c.map.ensures.closure (λ x r q k. search (rules, tests)))
     (λ x b q k. search (rules, tests))
-    ∙ walked-majorities a.self a.config a.t a.answered
+    ∙ walked-majorities c.args.self c.args.config c.args.t c.args.answered
