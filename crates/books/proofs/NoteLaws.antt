@@ -1,6 +1,6 @@
--- Laws of notes, all of them: what a change of their representation must prove anew. Notes are two sets, so they are joined, contained and compared
--- by the laws of sets over the width (`notes-joined`, `notes-decided`), and a note of joined notes is in one side; a tablet's own notes stand at
--- their places among all, and are those that it owns.
+-- Laws of notes, all of them but those of joining (specs/Joined): what a change of their representation must prove anew. Notes are two sets, and
+-- compared so (`notes-decided`), and a note of joined notes is in one side; a tablet's own notes stand at their places among all, and are those
+-- that it owns.
 use Prim.Native.Nat.{ℕ, ◌+◌, ◌*◌, ◌/◌, ◌%◌, ◌^◌, ◌≤◌, ◌<◌}
 use mathlib.Core.Bool.{Bool, true, false, true≢false}
 use mathlib.Core.Path.{◌≡◌, refl, sym, ap, ap₂, ◌∙◌}
@@ -12,30 +12,20 @@ use lib.Pow.{shl_exact, shl-shr, shr-shr, pow-add, pow_pos}
 use borrow.Author.Tests.{lt-ltb, le-ltb, ltb-true, ltb-false, eq-eqb, ne_eqb, eqb-true, eqb-false}
 use Rattle.sets.specs.Choice.{pick}
 use Rattle.sets.specs.Sets.{digit, has, union, inside}
-use Rattle.sets.proofs.Semilattice.{Semilattice}
-use Rattle.sets.proofs.SetLaws.{sets-joined, has-digit, digit-has, has-inside, has-union, union-has, digit_low, digit-high}
+use Rattle.sets.proofs.SetLaws.{has-digit, digit-has, has-inside, has-union, union-has, digit_low, digit-high}
 use Rattle.sets.proofs.Single.{none_in_empty, below-width, in_moved}
 use Rattle.sets.proofs.BoundedLaws.{both-on, pick_true, pick-false}
-use Rattle.sets.proofs.Parts.{of_one, of_two, Decides, numbers-decided, decided-of-one, decided-of-two}
+use Rattle.sets.proofs.Parts.{Decides, numbers-decided, parts-decided}
 use Rattle.books.specs.declared.Notes.{Notes}
+pub use Rattle.books.specs.Joined.{notes-joined}
 use Rattle.books.specs.Statements.{InWords}
 use Rattle.books.specs.Books.{owner, notes_part, has_note, notes_of, no_notes, own_notes, notes_inside, join_notes, same_notes}
 
--- ---- Joining, containment and equality
-
-note_parts : Notes → ℕ × ℕ
-note_parts n = (n.low, n.high)
-
-of_parts : ℕ × ℕ → Notes
-of_parts p = record { low = p.0; high = p.1 }
-
-pub notes-joined : Semilattice notes_inside join_notes
-unfolding note_parts of_parts
-notes-joined = of_one note_parts of_parts (λ p. refl) (λ n. refl) (of_two sets-joined sets-joined)
+-- ---- Equality
 
 pub notes-decided : Decides same_notes
-unfolding note_parts of_parts
-notes-decided = decided-of-one note_parts of_parts (λ n. refl) (decided-of-two numbers-decided numbers-decided)
+notes-decided =
+    parts-decided (λ (n : Notes). n.low) (λ (n : Notes). n.high) (λ (a b : ℕ). record { low = a; high = b }) (λ n. refl) numbers-decided numbers-decided
 
 -- ---- Parts
 

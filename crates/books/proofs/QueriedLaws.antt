@@ -11,7 +11,7 @@ use Rattle.books.specs.declared.Config.{Config}
 use Rattle.books.specs.declared.Listed.{Listed}
 use Rattle.books.specs.Books.{config_inside, has_majority}
 use Rattle.books.specs.Queried.{change_at, joined_with, every_majority, stays, outside}
-use Rattle.books.proofs.Turns.{queried_majority}
+use Rattle.books.proofs.Turns.{queried}
 
 -- ---- Every queried configuration has a majority
 
@@ -19,7 +19,7 @@ pub majority-at : (listed : Listed) (config : Config) (t answered : ℕ) → eve
     → (subset : ℕ) → subset < 64 → inside subset t ≡ true → has_majority (joined_with listed config subset) answered ≡ true
 unfolding every_majority
 majority-at listed config t answered h subset l p =
-    pick_true (has_majority (joined_with listed config subset) answered) true p ∙ each_at 64 (queried_majority listed config t answered) h subset l
+    pick_true (has_majority (joined_with listed config subset) answered) true p ∙ each_at 64 (queried (λ (c : Config). has_majority c answered) true listed config t) h subset l
 
 -- ---- The changes of a set that are not contained in a configuration
 

@@ -5,18 +5,22 @@ use Rattle.books.specs.Settled.{Settled}
 pub settled : Settled
 settled =
     record {
-      no_book = equation-settles _;
-      own_notes = λ tablet own. equation-settles _;
-      notes_part = λ notes k. equation-settles _;
-      join_notes = λ a b. equation-settles _;
-      same_notes = λ a b. equation-settles _;
-      config_inside = λ a b. equation-settles _;
-      same_config = λ a b. equation-settles _;
-      join_books = λ a b. equation-settles _;
-      book_inside = λ a b. equation-settles _;
-      place_of = λ listed change. equation-settles _;
-      trim = λ listed config t. equation-settles _;
-      join_changes = λ listed config t. equation-settles _;
-      every_majority = λ listed config t answered. equation-settles _;
-      asked_boxes = λ listed config t. equation-settles _;
+      own = λ tablet own. equation-settles _;
+      part = λ self k. equation-settles _;
+      notes_join = λ self other. equation-settles _;
+      notes_is_inside = λ self other. equation-settles _;
+      notes_eq = λ self other. equation-settles _;
+      members = λ self. equation-settles _;
+      has_majority = λ self answered. equation-settles _;
+      config_join = λ self other. equation-settles _;
+      config_is_inside = λ self other. equation-settles _;
+      config_eq = λ self other. equation-settles _;
+      none = equation-settles _;
+      book_join = λ self other. equation-settles _;
+      book_is_inside = λ self other. equation-settles _;
+      place_of = λ self change. equation-settles _;
+      outside = λ self config t. equation-settles _;
+      joined_with = λ self config t. equation-settles _;
+      every_majority = λ self config t answered. equation-settles _;
+      asked_boxes = λ self config t. equation-settles _;
     }

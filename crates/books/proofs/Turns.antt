@@ -1,24 +1,31 @@
 -- One turn of each loop of the crate and its end, on plain values: what the functions' proofs cite.
-use Prim.Native.Nat.{ℕ, suc, ◌+◌, ◌*◌, ◌%◌, ◌^◌, ◌≤◌, ◌<◌, min}
-use mathlib.Core.Bool.{Bool, true, false}
-use mathlib.Core.List.{List, map}
-use mathlib.Core.Path.{◌≡◌, sym, ap, ◌∙◌}
-use mathlib.Core.Logic.{◌⊎◌, ⊎_elim}
-use native.Mathlib.Nat.{lt_irrefl, zero-add}
+use Prim.Native.Nat.{ℕ, zero, suc, ◌+◌, ◌*◌, ◌%◌, ◌^◌, ◌≤◌, ◌<◌, min}
+use mathlib.Core.Bool.{Bool, true, false, cond}
+use mathlib.Core.List.{List, [], ◌∷◌, ◌++◌, map}
+use mathlib.Core.Path.{◌≡◌, refl, sym, ap, ◌∙◌}
+use native.Mathlib.Nat.{zero-add}
 use native.Mathlib.Numerals.{add-one}
 use native.Mathlib.Omega.{arith}
-use lib.ListN.{get_or, take, drop, length, length-map, length-take, drop_of_length-le}
-use lib.Pow.{pow_mono}
-use lib.Seq.{drop-cons, get_or-take}
-use Rattle.sets.specs.Choice.{pick}
-use Rattle.sets.specs.Sets.{inside}
-use Rattle.sets.specs.Bounded.{those}
-use Rattle.sets.proofs.SetLaws.{one_shifted, larger-not-inside}
-use Rattle.sets.proofs.BoundedLaws.{pick_true, pick-false, those-in, those-lt}
+use lib.ListN.{length, length-map}
+use Rattle.std.specs.Prelude.{Option}
+use Rattle.std.specs.List.{AllWithin, HoldsAt, range_with_len, filter, fold, list_all}
+use Rattle.std.specs.Option.{MatchOption, unwrap_or}
+use Rattle.std.proofs.lemmas.Iterator.{index_from_first}
+use Rattle.std.proofs.lemmas.List.{map-append, map-id}
+use Rattle.std.proofs.lemmas.List.FromFn.{map-range_with_len_more}
+use Rattle.std.proofs.lemmas.List.Elements.{filter-append}
+use Rattle.std.proofs.lemmas.List.Sums.{fold-append}
+use Rattle.std.proofs.lemmas.Nat.{one_shl}
+use Rattle.std.specs.Int.Bits.{bit_or, or_zero_r, or_shifted_r}
+use Rattle.sets.specs.Choice.{pick, both}
+use Rattle.sets.specs.Sets.{union, inside}
+use Rattle.sets.specs.Bounded.{each, unions, those}
+use Rattle.sets.proofs.SetLaws.{larger-not-inside}
+use Rattle.sets.proofs.BoundedLaws.{both_yes, both-assoc, pick_true, pick-false, each-rest, unions-rest, those-in, those-lt}
 use Rattle.books.specs.declared.Config.{Config}
 use Rattle.books.specs.declared.Listed.{Listed}
-use Rattle.books.specs.Books.{no_config, same_config, members_of, has_majority}
-use Rattle.books.specs.Queried.{first_place, place_of, change_at, joined_with}
+use Rattle.books.specs.Books.{members_of, has_majority}
+use Rattle.books.specs.Queried.{first_place, change_at, stays, joined_with, every_majority, asked_boxes}
 
 -- what owning an array of structs tells of its list: its length
 pub length-mapped : {X Y : Type 0} (f : X → Y) (l : List X) (n : ℕ) → length (map f l) ≡ n → length l ≡ n
@@ -26,91 +33,92 @@ length-mapped f l n e = sym (length-map l f) ∙ e
 
 -- ---- Looking for a place in a list
 
-module _ {A : Type 0} (p : A → Bool) (d : A) (xs : List A) (i : ℕ) where
-  first-here : i < length xs → p (get_or xs i d) ≡ true → first_place p (drop i xs) ≡ 0
-  unfolding first_place
-  first-here h e = rw (drop-cons xs i d h, e)
-
-  first_on : i < length xs → p (get_or xs i d) ≡ false → i + first_place p (drop i xs) ≡ i + 1 + first_place p (drop (i + 1) xs)
-  unfolding first_place
-  first_on h e = rw (drop-cons xs i d h, e, add-one i) (omega arith)
-
-  first-end : length xs ≤ i → first_place p (drop i xs) ≡ 0
-  unfolding first_place
-  first-end h = rw (drop_of_length-le xs h)
-
--- none of the changes before place i is the one looked for
-pub Sought : Listed → Config → ℕ → Type 0
-Sought listed change i =
-    place_of listed change ≡ i + first_place (same_config change) (drop i (take listed.count listed.changes))
-
-module _ (listed : Listed) (change : Config) (n : length listed.changes ≡ 6) where
-  taken-length : length (take listed.count listed.changes) ≡ min listed.count 6
-  taken-length = length-take listed.count listed.changes ∙ ap (min listed.count) n
-
-  same-there : (i : ℕ) {b : Bool} → i < listed.count → same_config change (change_at listed i) ≡ b
-      → same_config change (get_or (take listed.count listed.changes) i no_config) ≡ b
-  same-there i h e = ap (same_config change) (get_or-take listed.count listed.changes i no_config h) ∙ e
-
-  pub sought-none : Sought listed change 0
-  unfolding Sought place_of
-  sought-none = sym (zero-add _)
-
-  pub sought-on : (i : ℕ) → i < 6 → i < listed.count → Sought listed change i → same_config change (change_at listed i) ≡ false
-      → Sought listed change (i + 1)
-  unfolding Sought
-  sought-on i l h s e =
-      s ∙ first_on (same_config change) no_config (take listed.count listed.changes) i (omega (arith, taken-length)) (same-there i h e)
-
-  pub sought-here : (i : ℕ) → i < 6 → i < listed.count → Sought listed change i → same_config change (change_at listed i) ≡ true
-      → i ≡ place_of listed change
-  unfolding Sought
-  sought-here i l h s e =
-      omega (arith, s, first-here (same_config change) no_config (take listed.count listed.changes) i (omega (arith, taken-length)) (same-there i h e))
-
-  pub sought-end : (i : ℕ) → (6 ≤ i) ⊎ (listed.count ≤ i) → Sought listed change i → i ≡ place_of listed change
-  unfolding Sought
-  sought-end i h s =
-      omega (
-        arith,
-        s,
-        first-end (same_config change) no_config (take listed.count listed.changes) i
-            (⊎_elim (λ a. omega (arith, taken-length)) (λ a. omega (arith, taken-length)) h),
-      )
+-- what `position` finds is the first place, and where it finds none the length is
+pub first-found : {A : Type 0} (p : A → Bool) (xs : List A) (r : Option ℕ)
+    → MatchOption r (AllWithin (λ x. p x ≡ false) xs 0 (length xs))
+    (λ i. (i < length xs) × HoldsAt (λ x. p x ≡ true) xs i × AllWithin (λ x. p x ≡ false) xs 0 i)
+    → first_place p xs ≡ unwrap_or r (length xs)
+unfolding first_place
+first-found p =
+    index_from_first (first_place p) (λ x. p x ≡ true) (λ x. p x ≡ false) refl (λ x xs e. sym (pick_true 0 (suc (first_place p xs)) e))
+    (λ x xs e. sym (pick-false 0 (suc (first_place p xs)) e) ∙ sym (add-one (first_place p xs)))
 
 -- ---- One change more of a set
 
-pub those-on : (k : ℕ) (p : ℕ → Bool) {cur : ℕ} → k < 8 → cur ≡ those k p → p k ≡ true → cur + 1 * 2 ^ k % 256 ≡ those (k + 1) p
-those-on k p h e q = rw (one_shifted k 8 h, e) (those-in k p q)
+-- change k of the list stays
+abbrev pub stayer : Listed → Config → ℕ → ℕ → Bool
+stayer listed config t k = stays (change_at listed k) config t k
 
-pub those-fits : (k : ℕ) (p : ℕ → Bool) {cur : ℕ} → k < 8 → cur ≡ those k p → cur + 1 * 2 ^ k % 256 < 256
-those-fits k p h e = rw (one_shifted k 8 h, e) (omega (arith, those-lt k p, pow_mono {i = suc k} {j = 8} h))
+pub those-on : (k : ℕ) (p : ℕ → Bool) {cur : ℕ} → k < 8 → cur ≡ those k p → p k ≡ true → bit_or cur (1 * 2 ^ k % 256) ≡ those (k + 1) p
+those-on k p h e q =
+    let one : 1 * 2 ^ k % 256 ≡ 1 * 2 ^ k = omega (arith, one_shl k 8 h) in
+    rw (one, e) (omega (arith, or_shifted_r 1 k (those k p) (those-lt k p), those-in k p q))
 
--- ---- One queried configuration more
+-- ---- Gathering over the numbers below a bound of which a test holds
+
+range-more : (n : ℕ) → range_with_len 0 (suc n) ≡ range_with_len 0 n ++ n ∷ []
+range-more n =
+    ap (range_with_len 0) (sym (add-one n)) ∙ sym (map-id (range_with_len 0 (n + 1)))
+    ∙ map-range_with_len_more (λ (x : ℕ). x) 0 n n (zero-add n)
+    ∙ ap (λ (xs : List ℕ). xs ++ n ∷ []) (map-id (range_with_len 0 n))
+
+module _ {A B : Type 0} (join : A → A → A) (nothing : A) (unchanged : (a : A) → join a nothing ≡ a) (test : ℕ → Bool) (make : ℕ → B) (gives : B → A)
+    (all : ℕ → A) (none : all 0 ≡ nothing) (more : (k : ℕ) → all (suc k) ≡ join (all k) (pick (test k) (gives (make k)) nothing)) where
+  add : A → B → A
+  add sum b = join sum (gives b)
+
+  gathered-one : (sum : A) (n : ℕ) → fold add sum (map make (filter test (n ∷ []))) ≡ join sum (pick (test n) (gives (make n)) nothing)
+  unfolding add
+  gathered-one sum n = go (test n)
+    where
+      go : (t : Bool) → fold add sum (map make (cond t (n ∷ []) [])) ≡ join sum (pick t (gives (make n)) nothing)
+      go true = refl
+      go false = sym (unchanged sum)
+
+  pub gathered : (n : ℕ) → fold (λ sum b. join sum (gives b)) nothing (map make (filter test (range_with_len 0 n))) ≡ all n
+  unfolding add
+  gathered zero = sym none
+  gathered (suc n) =
+      let below = filter test (range_with_len 0 n) in
+      ap (λ xs. fold add nothing (map make xs)) (ap (filter test) (range-more n) ∙ filter-append test (range_with_len 0 n) (n ∷ []))
+      ∙ ap (fold add nothing) (map-append make below (filter test (n ∷ [])))
+      ∙ fold-append add nothing (map make below) (map make (filter test (n ∷ [])))
+      ∙ gathered-one (fold add nothing (map make below)) n
+      ∙ ap (λ a. join a (pick (test n) (gives (make n)) nothing)) (gathered n)
+      ∙ sym (more n)
+
+-- that a test holds of each is gathered so too
+list_all-fold : {A : Type 0} (p : A → Bool) (xs : List A) (b : Bool) → both b (list_all p xs) ≡ fold (λ b x. both b (p x)) b xs
+list_all-fold p [] b = both_yes b
+list_all-fold p (x ∷ xs) b = sym (both-assoc b (p x) (list_all p xs)) ∙ list_all-fold p xs (both b (p x))
+
+-- ---- The queried configurations
 
 -- what a number adds to what is gathered from the queried configurations: of a subset of t what its configuration gives, else nothing
 abbrev pub queried : {A : Type 0} → (Config → A) → A → Listed → Config → ℕ → ℕ → A
 queried gives nothing listed config t subset = pick (inside subset t) (gives (joined_with listed config subset)) nothing
 
-abbrev pub queried_majority : Listed → Config → ℕ → ℕ → ℕ → Bool
-queried_majority listed config t answered = queried (λ (c : Config). has_majority c answered) true listed config t
+module _ (listed : Listed) (config : Config) (t : ℕ) where
+  -- the queried configurations as the code walks over them, by the subsets of t: no subset is a larger number than t
+  abbrev pub walk : List Config
+  walk = map (joined_with listed config) (filter (λ (subset : ℕ). inside subset t) (range_with_len 0 (min t 63 + 1)))
 
-abbrev pub queried_boxes : Listed → Config → ℕ → ℕ → ℕ
-queried_boxes listed config t = queried members_of 0 listed config t
+  -- a number past the walk is no subset of t
+  past : {A : Type 0} (gives : Config → A) (nothing : A) (n : ℕ) → min t 63 + 1 ≤ n → n < 64 → queried gives nothing listed config t n ≡ nothing
+  past gives nothing n h l = sym (pick-false (gives (joined_with listed config n)) nothing (larger-not-inside n t (omega arith)))
 
-module _ {A : Type 0} (gives : Config → A) (nothing : A) (listed : Listed) (config : Config) (t : ℕ) where
-  adds-nothing : (subset : ℕ) → inside subset t ≡ false → queried gives nothing listed config t subset ≡ nothing
-  adds-nothing subset h = sym (pick-false (gives (joined_with listed config subset)) nothing h)
+  pub walked-majorities : (answered : ℕ) → list_all (λ (c : Config). has_majority c answered) walk ≡ every_majority listed config t answered
+  unfolding every_majority each
+  walked-majorities answered =
+      let gives : Config → Bool = λ c. has_majority c answered in
+      list_all-fold gives walk true
+      ∙ gathered both true both_yes (λ (n : ℕ). inside n t) (joined_with listed config) gives (λ (n : ℕ). each n (queried gives true listed config t)) refl
+      (λ k. refl) (min t 63 + 1)
+      ∙ each-rest (queried gives true listed config t) (min t 63 + 1) 64 (omega arith) (past gives true)
 
-  pub queried-in : (join : A → A → A) (subset : ℕ) (all : A) {joined : Config} {next : A} → joined ≡ joined_with listed config subset
-      → inside subset t ≡ true → next ≡ gives joined → join all next ≡ join all (queried gives nothing listed config t subset)
-  queried-in join subset all e h q = ap (join all) (q ∙ ap gives e ∙ pick_true (gives (joined_with listed config subset)) nothing h)
-
-  pub queried-out : (join : A → A → A) → ((a : A) → join a nothing ≡ a) → (subset : ℕ) (all : A) → inside subset t ≡ false
-      → all ≡ join all (queried gives nothing listed config t subset)
-  queried-out join unchanged subset all h = sym (unchanged all) ∙ ap (join all) (sym (adds-nothing subset h))
-
-  -- no number past the end is a subset of t
-  pub queried-past : (end : ℕ) → (64 ≤ end) ⊎ (t < end) → (n : ℕ) → end ≤ n → n < 64 → queried gives nothing listed config t n ≡ nothing
-  queried-past end h n l m =
-      adds-nothing n (⊎_elim (λ a. absurd (lt_irrefl 0 (omega arith))) (λ a. larger-not-inside n t (omega arith)) h)
+  pub walked-boxes : fold (λ (boxes : ℕ) (c : Config). union boxes (members_of c)) 0 walk ≡ asked_boxes listed config t
+  unfolding asked_boxes unions
+  walked-boxes =
+      gathered union 0 or_zero_r (λ (n : ℕ). inside n t) (joined_with listed config) members_of
+      (λ (n : ℕ). unions n (queried members_of 0 listed config t)) refl (λ k. refl) (min t 63 + 1)
+      ∙ unions-rest (queried members_of 0 listed config t) (min t 63 + 1) 64 (omega arith) (past members_of 0)

@@ -1,4 +1,5 @@
 pub mod Books
+pub mod Joined
 pub mod Queried
 pub mod Cases
 pub mod Statements

@@ -5,23 +5,29 @@ use Rattle.books.specs.declared.Notes.{Notes}
 use Rattle.books.specs.declared.Config.{Config}
 use Rattle.books.specs.declared.Book.{Book}
 use Rattle.books.specs.declared.Listed.{Listed}
-use Rattle.books.specs.Books.{notes_part, own_notes, no_book, config_inside, book_inside, join_notes, join_books, same_notes, same_config}
+use Rattle.books.specs.Books.{notes_part, own_notes, no_book, notes_inside, config_inside, book_inside, join_notes, join_configs, join_books, same_notes, same_config, members_of, has_majority}
 use Rattle.books.specs.Queried.{place_of, outside, joined_with, every_majority, asked_boxes}
 
 pub record Settled : Type 0 where
-  -- notes, configurations, books
-  pub no_book : Settles (λ (r : Book). r ≡ no_book)
-  pub own_notes : (tablet own : ℕ) → Settles (λ (r : Notes). r ≡ own_notes tablet own)
-  pub notes_part : (notes : Notes) (k : ℕ) → Settles (λ (r : ℕ). r ≡ notes_part notes k)
-  pub join_notes : (a b : Notes) → Settles (λ (r : Notes). r ≡ join_notes a b)
-  pub same_notes : (a b : Notes) → Settles (λ (r : Bool). r ≡ same_notes a b)
-  pub config_inside : (a b : Config) → Settles (λ (r : Bool). r ≡ config_inside a b)
-  pub same_config : (a b : Config) → Settles (λ (r : Bool). r ≡ same_config a b)
-  pub join_books : (a b : Book) → Settles (λ (r : Book). r ≡ join_books a b)
-  pub book_inside : (a b : Book) → Settles (λ (r : Bool). r ≡ book_inside a b)
+  -- notes
+  pub own : (tablet own : ℕ) → Settles (λ (r : Notes). r ≡ own_notes tablet own)
+  pub part : (self : Notes) (k : ℕ) → Settles (λ (r : ℕ). r ≡ notes_part self k)
+  pub notes_join : (self other : Notes) → Settles (λ (r : Notes). r ≡ join_notes self other)
+  pub notes_is_inside : (self other : Notes) → Settles (λ (r : Bool). r ≡ notes_inside self other)
+  pub notes_eq : (self other : Notes) → Settles (λ (r : Bool). r ≡ same_notes self other)
+  -- configurations
+  pub members : (self : Config) → Settles (λ (r : ℕ). r ≡ members_of self)
+  pub has_majority : (self : Config) (answered : ℕ) → Settles (λ (r : Bool). r ≡ has_majority self answered)
+  pub config_join : (self other : Config) → Settles (λ (r : Config). r ≡ join_configs self other)
+  pub config_is_inside : (self other : Config) → Settles (λ (r : Bool). r ≡ config_inside self other)
+  pub config_eq : (self other : Config) → Settles (λ (r : Bool). r ≡ same_config self other)
+  -- books
+  pub none : Settles (λ (r : Book). r ≡ no_book)
+  pub book_join : (self other : Book) → Settles (λ (r : Book). r ≡ join_books self other)
+  pub book_is_inside : (self other : Book) → Settles (λ (r : Bool). r ≡ book_inside self other)
   -- the listed changes and the queried configurations
-  pub place_of : (listed : Listed) (change : Config) → Settles (λ (r : ℕ). r ≡ place_of listed change)
-  pub trim : (listed : Listed) (config : Config) (t : ℕ) → Settles (λ (r : ℕ). r ≡ outside listed config t)
-  pub join_changes : (listed : Listed) (config : Config) (t : ℕ) → Settles (λ (r : Config). r ≡ joined_with listed config t)
-  pub every_majority : (listed : Listed) (config : Config) (t answered : ℕ) → Settles (λ (r : Bool). r ≡ every_majority listed config t answered)
-  pub asked_boxes : (listed : Listed) (config : Config) (t : ℕ) → Settles (λ (r : ℕ). r ≡ asked_boxes listed config t)
+  pub place_of : (self : Listed) (change : Config) → Settles (λ (r : ℕ). r ≡ place_of self change)
+  pub outside : (self : Listed) (config : Config) (t : ℕ) → Settles (λ (r : ℕ). r ≡ outside self config t)
+  pub joined_with : (self : Listed) (config : Config) (t : ℕ) → Settles (λ (r : Config). r ≡ joined_with self config t)
+  pub every_majority : (self : Listed) (config : Config) (t answered : ℕ) → Settles (λ (r : Bool). r ≡ every_majority self config t answered)
+  pub asked_boxes : (self : Listed) (config : Config) (t : ℕ) → Settles (λ (r : ℕ). r ≡ asked_boxes self config t)

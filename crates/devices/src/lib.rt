@@ -7,6 +7,7 @@ ghost use Rattle.devices.specs.Effects.{number_of, kept_after, only, box_of, add
 
 use books::{Book, Config, Listed, Notes};
 use refusals::Refusal;
+use sets::Joins;
 
 #[derive(Clone, Copy, PartialEq, Eq)]
 pub struct Contents {
@@ -132,7 +133,7 @@ pub fn kept_after(outcome: Outcome, kept: Book) -> Book
     ensures { result ≡ kept_after outcome kept }
 {
     match outcome {
-        Ok(Accepted::Committed(book) | Accepted::Adopted(book)) => books::join_books(kept, book),
+        Ok(Accepted::Committed(book) | Accepted::Adopted(book)) => kept.join(book),
         _ => kept,
     }
 }
@@ -143,11 +144,11 @@ impl Contents {
     pub fn merge(self, listed: Listed, theirs: Contents) -> Contents
         ensures { result ≡ merged listed self theirs }
     {
-        let v = books::join_books(self.v, theirs.v);
+        let v = self.v.join(theirs.v);
         Contents {
             v,
-            candidates: books::join_notes(self.candidates, theirs.candidates),
-            t: books::trim(listed, v.config, self.t | theirs.t),
+            candidates: self.candidates.join(theirs.candidates),
+            t: listed.outside(v.config, self.t.join(theirs.t)),
         }
     }
 }

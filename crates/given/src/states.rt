@@ -120,14 +120,14 @@ fn changes() -> [Config; 6] {
 fn book(config: Config) -> Book {
     Book {
         config,
-        ..books::no_book()
+        ..Book::none()
     }
 }
 
 fn contents(config: Config, t: u64) -> Contents {
     Contents {
         v: book(config),
-        candidates: books::no_book().notes,
+        candidates: Book::none().notes,
         t: byte(t),
     }
 }
@@ -144,7 +144,7 @@ fn asks([_, _, added, removed, t, answered]: [u64; 6]) -> Phase {
     Phase::Asks(Asking {
         config: pair(added, removed),
         t: byte(t),
-        candidates: books::no_book().notes,
+        candidates: Book::none().notes,
         answered: two_bytes(answered),
         floor: None,
     })
@@ -168,6 +168,6 @@ fn commit(from: u64, to: u64) -> Message {
     Message::Commit(Notice {
         from: byte(from),
         to: byte(to),
-        book: books::no_book(),
+        book: Book::none(),
     })
 }

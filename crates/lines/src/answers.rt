@@ -1,5 +1,5 @@
 // A step's answer as the player and the lister print it: its number, and what an Advance adds to it.
-use books::Book;
+use books::{Book, Notes};
 use devices::{Accepted, Outcome};
 use std::fmt;
 
@@ -25,8 +25,8 @@ struct Handed(Book);
 impl fmt::Display for Handed {
     fn fmt<W: fmt::Write>(&self, f: &mut fmt::Formatter<W>) -> fmt::Result {
         let book = self.0;
-        for part in (0..books::NOTE_PARTS).rev() {
-            write!(f, "{:016x}", books::notes_part(book.notes, part))?;
+        for part in (0..Notes::PARTS).rev() {
+            write!(f, "{:016x}", book.notes.part(part))?;
         }
         let config = book.config;
         write!(f, " {:04x} {:04x}", config.added, config.removed)

@@ -6,7 +6,7 @@ use mathlib.Core.Path.{◌≡◌, refl}
 use mathlib.Core.Logic.{◌⊎◌, inl, inr}
 use Rattle.sets.specs.Sets.{digit, has, union}
 use Rattle.sets.proofs.SetLaws.{has-digit, digit-has, union-has-left, union-has-right}
-use Rattle.sets.proofs.Semilattice.{contained-refl, contained-trans, contained-left, contained-right}
+use Rattle.sets.specs.Semilattice.{contained-refl, contained-trans, contained-left, contained-right}
 use Rattle.books.specs.declared.Config.{Config}
 use Rattle.books.specs.declared.Listed.{Listed}
 use Rattle.books.specs.Books.{notes_inside, config_inside, book_inside, join_notes, join_configs, join_books}

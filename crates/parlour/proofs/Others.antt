@@ -13,7 +13,7 @@ use lib.Seq.{set-get_or}
 use Rattle.sets.specs.Choice.{pick}
 use Rattle.sets.specs.Sets.{digit, has, union}
 use Rattle.sets.proofs.SetLaws.{digit_lt, has-digit, digit-has, digit-union, union-has-left}
-use Rattle.sets.proofs.Semilattice.{contained-refl, contained-left}
+use Rattle.sets.specs.Semilattice.{contained-refl, contained-left}
 use Rattle.books.specs.declared.Book.{Book}
 use Rattle.books.specs.Books.{book_inside}
 use Rattle.books.proofs.BookLaws.{books-joined}

@@ -7,7 +7,7 @@ use lib.Dec.{ltb}
 use borrow.Author.Tests.{lt-ltb, le-ltb, ltb-true, leb-true}
 use Rattle.sets.specs.Choice.{pick}
 use Rattle.sets.specs.Sets.{union}
-use Rattle.sets.proofs.SetLaws.{one_shifted}
+use Rattle.std.proofs.lemmas.Nat.{one_shl}
 use Rattle.sets.proofs.BoundedLaws.{pick_true, pick-false}
 use Rattle.devices.specs.declared.Message.{Message}
 use Rattle.devices.specs.declared.Step.{Step}
@@ -65,4 +65,4 @@ device-named k (Device n) m h p = sym (within_in 24 n (omega (arith, leb-true n 
 
 -- a device is stopped by a union
 pub stopped-one : (stopped d : ℕ) → d < 24 → union stopped (1 * 2 ^ d % 4294967296) ≡ union stopped (2 ^ d)
-stopped-one stopped d h = ap (union stopped) (one_shifted d 32 (omega arith))
+stopped-one stopped d h = ap (union stopped) (one_shl d 32 (omega arith))

@@ -4,7 +4,7 @@ use mathlib.Core.Bool.{Bool, true, false}
 use mathlib.Core.Path.{◌≡◌, refl, ap, ◌∙◌}
 use mathlib.Core.Logic.{◌⊎◌, inl, inr}
 use Rattle.sets.specs.Sets.{digit, has, union}
-use Rattle.sets.proofs.Semilattice.{contained-left, contained-trans}
+use Rattle.sets.specs.Semilattice.{contained-left, contained-trans}
 use Rattle.sets.proofs.SetLaws.{has-digit, digit-has, in-union, union-has-left, union-has-right}
 use Rattle.books.specs.declared.Notes.{Notes}
 use Rattle.books.specs.declared.Config.{Config}

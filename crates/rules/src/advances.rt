@@ -5,6 +5,7 @@ ghost use Rattle.rules.specs.Rules.{hands_back, floor_inside, decided, allowed, 
 use books::Book;
 use devices::{Accepted, Asking, Effect, Here, Message, Notice, Phase, Sending, Tablet};
 use refusals::Refusal;
+use sets::Joins;
 
 // The candidates with v's configuration joined with T.
 #[tactic(auto, unfolding(crate::specs::Rules::decided))]
@@ -14,7 +15,7 @@ fn decide(h: Here) -> Book
     let c = h.contents;
     Book {
         notes: c.candidates,
-        config: books::join_changes(h.listed, c.v.config, c.t),
+        config: h.listed.joined_with(c.v.config, c.t),
     }
 }
 
@@ -23,8 +24,7 @@ fn decide(h: Here) -> Book
 fn is_allowed(a: Asking, h: Here) -> bool
     ensures { result ≡ allowed a h }
 {
-    !books::same_config(h.contents.v.config, a.config)
-        || books::every_majority(h.listed, a.config, a.t, a.answered)
+    h.contents.v.config != a.config || h.listed.every_majority(a.config, a.t, a.answered)
 }
 
 // Whether configuration and T equal the saved.
@@ -32,7 +32,7 @@ fn is_allowed(a: Asking, h: Here) -> bool
 fn is_steady(a: Asking, h: Here) -> bool
     ensures { result ≡ steady a h }
 {
-    books::same_config(h.contents.v.config, a.config) & (h.contents.t == a.t)
+    (h.contents.v.config == a.config) & (h.contents.t == a.t)
 }
 
 // The floor, set if it is unset.
@@ -77,7 +77,7 @@ fn commit_rule(tablet: u8, b: Book, h: Here) -> Result<Effect, Refusal>
 fn reached(floor: Option<Book>, v: Book) -> bool
     ensures { result ≡ floor_inside floor v }
 {
-    floor.is_some_and(|b| books::book_inside(b, v))
+    floor.is_some_and(|b| b.is_inside(v))
 }
 
 // Where a set floor is contained in v, v is handed back; else another round begins.
@@ -108,7 +108,7 @@ fn advance_from(tablet: u8, a: Asking, h: Here) -> Result<Effect, Refusal>
         return adopt_or(tablet, a.floor, h);
     }
     let b = decide(h);
-    if books::same_notes(h.contents.candidates, a.candidates) {
+    if h.contents.candidates == a.candidates {
         return commit_rule(tablet, b, h);
     }
     adopt_or(tablet, set_floor(a.floor, b), h)

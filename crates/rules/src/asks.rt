@@ -2,9 +2,10 @@
 ghost use Rattle.std.specs.Prelude.{◌≡◌, ◌<◌, ◌^◌};
 ghost use Rattle.rules.specs.Rules.{ask_with, ask_pair, ask};
 
-use books::{Config, Listed};
+use books::{Config, Listed, Notes};
 use devices::{Accepted, Contents, Effect, Here, Phase};
 use refusals::Refusal;
+use sets::Joins;
 
 // The notes and the pair, as a set of listed changes, are merged in, and a round begins.
 #[tactic(auto, unfolding(crate::specs::Rules::ask_with))]
@@ -13,7 +14,7 @@ fn ask_with(tablet: u8, own: u16, pair: u8, listed: Listed, h: Here) -> Result<E
 {
     let asked = Contents {
         v: h.contents.v,
-        candidates: books::own_notes(tablet, own),
+        candidates: Notes::own(tablet, own),
         t: pair,
     };
     let c = h.contents.merge(listed, asked);
@@ -34,10 +35,10 @@ fn ask_pair(tablet: u8, own: u16, pair: Config, h: Here) -> Result<Effect, Refus
     ensures { result ≡ ask_pair tablet own pair h }
 {
     let listed = h.listed;
-    if books::config_inside(pair, h.contents.v.config) {
+    if pair.is_inside(h.contents.v.config) {
         return ask_with(tablet, own, 0, listed, h);
     }
-    let place = books::place_of(listed, pair);
+    let place = listed.place_of(pair);
     if place < listed.count {
         return ask_with(tablet, own, only_change(place), listed, h);
     }

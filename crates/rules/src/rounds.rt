@@ -19,7 +19,7 @@ pub(crate) fn begin(
     ensures { result ≡ begun tablet answer floor listed c h }
 {
     let round = crate::refusing::next_round(h)?;
-    let boxes = books::asked_boxes(listed, c.v.config, c.t);
+    let boxes = listed.asked_boxes(c.v.config, c.t);
     crate::refusing::too_few_slots(sets::count_boxes(boxes) as usize, h)?;
     Ok(Effect {
         contents: c,

@@ -10,6 +10,9 @@ use lib.Bits.{or_zero_r}
 use lib.Dec.{ltb}
 use lib.Pow.{high, low}
 use borrow.Author.Tests.{ltb-true, ltb-false}
+use Rattle.std.proofs.lemmas.Bool.{and_parts}
+pub use Rattle.std.proofs.lemmas.Bool.{and_from as both-on}
+pub use Rattle.std.proofs.Math.Bool.{and_assoc as both-assoc, and-true as both_yes}
 use Rattle.sets.specs.Choice.{pick, both}
 use Rattle.sets.specs.Sets.{digit, union}
 use Rattle.sets.specs.Bounded.{times, each, unions, those}
@@ -21,30 +24,16 @@ eq-zero l = omega arith
 -- ---- Choosing
 
 pub both_left : (a b : Bool) → both a b ≡ true → a ≡ true
-both_left true b h = refl
-both_left false b h = h
+both_left a b h = (and_parts a b h).0
 
 pub both_right : (a b : Bool) → both a b ≡ true → b ≡ true
-both_right true b h = h
-both_right false true h = refl
-both_right false false h = h
-
-pub both-on : (a b : Bool) → a ≡ true → b ≡ true → both a b ≡ true
-both-on a b p q = rw (p, q)
-
-pub both_yes : (a : Bool) → both a true ≡ a
-both_yes true = refl
-both_yes false = refl
+both_right a b h = (and_parts a b h).1
 
 pub both_true : {a : Bool} (b : Bool) → a ≡ true → b ≡ both a b
 both_true b e = ap (λ (x : Bool). both x b) (sym e)
 
 pub both_false : {a : Bool} (b : Bool) → a ≡ false → false ≡ both a b
 both_false b e = ap (λ (x : Bool). both x b) (sym e)
-
-pub both-assoc : (a b c : Bool) → both (both a b) c ≡ both a (both b c)
-both-assoc true b c = refl
-both-assoc false b c = refl
 
 pub pick_true : {A : Type 0} {t : Bool} (a b : A) → t ≡ true → a ≡ pick t a b
 pick_true a b e = ap (λ (x : Bool). pick x a b) (sym e)
@@ -111,14 +100,6 @@ unfolding each
 each-rest p = no_more both true both_yes (λ (n : ℕ). each n p) p (λ n. refl)
 
 -- ---- Unions
-
-pub unions-zero : (f : ℕ → ℕ) → 0 ≡ unions 0 f
-unfolding unions
-unions-zero f = refl
-
-pub unions-on : (f : ℕ → ℕ) (k : ℕ) {cur next : ℕ} → cur ≡ unions k f → next ≡ union cur (f k) → next ≡ unions (k + 1) f
-unfolding unions
-unions-on f k = one_more (λ (n s : ℕ). union s (f n)) (λ (n : ℕ). unions n f) (λ n. refl) k
 
 -- sets that are empty add nothing
 pub unions-rest : (f : ℕ → ℕ) (j k : ℕ) → j ≤ k → ((n : ℕ) → j ≤ n → n < k → f n ≡ 0) → unions j f ≡ unions k f

@@ -1,4 +1,3 @@
-pub mod Semilattice
 pub mod SetLaws
 pub mod Single
 pub mod BoundedLaws

@@ -8,4 +8,10 @@ settled =
       members_of = λ added removed. equation-settles _;
       count_boxes = λ boxes. equation-settles _;
       majority = λ added removed answered. equation-settles _;
+      u8_join = λ self other. equation-settles _;
+      u8_is_inside = λ self other. equation-settles _;
+      u16_join = λ self other. equation-settles _;
+      u16_is_inside = λ self other. equation-settles _;
+      u64_join = λ self other. equation-settles _;
+      u64_is_inside = λ self other. equation-settles _;
     }

@@ -1,12 +1,13 @@
 -- The set of no number (`none_in_empty`), a set of a width (`below-width`), a set whose numbers are moved up (`in_moved`), and the set of one number (`in-single`, `single-has`).
-use Prim.Native.Nat.{ℕ, ◌+◌, ◌*◌, ◌/◌, ◌%◌, ◌^◌, ◌<◌, ◌≤◌}
+use Prim.Native.Nat.{ℕ, ◌+◌, ◌*◌, ◌^◌, ◌<◌, ◌≤◌}
 use mathlib.Core.Bool.{Bool, true, false}
 use mathlib.Core.Path.{◌≡◌, refl, sym, ap, ◌∙◌}
 use native.Mathlib.Nat.{lt_irrefl, mul-mod_left, one-mul}
 use native.Mathlib.Omega.{arith}
 use lib.Dec.{ltb}
-use lib.Pow.{shl_lt, shl-shr}
+use lib.Pow.{shl_lt}
 use borrow.Author.Tests.{ltb-true, ltb-false}
+use Rattle.std.proofs.lemmas.Nat.Bits.{bit_at-pow_same}
 use Rattle.sets.specs.Sets.{digit}
 use Rattle.sets.proofs.SetLaws.{digit_low, digit-high}
 
@@ -44,4 +45,4 @@ in-single k n h =
     omega arith
 
 pub single-has : (k : ℕ) → digit k (2 ^ k) ≡ 1
-single-has k = ap (λ (x : ℕ). x % 2) (ap (λ (x : ℕ). x / 2 ^ k) (sym (one-mul (2 ^ k))) ∙ shl-shr 1 k)
+single-has k = bit_at-pow_same k

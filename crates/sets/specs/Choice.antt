@@ -1,5 +1,5 @@
 -- The two words in which the rules choose: `pick` for "if .. then .. else", `both` for "and".
-use Rattle.std.specs.Prelude.{Bool, true, false}
+use Rattle.std.specs.Prelude.{Bool, true, false, ◌&&◌}
 
 -- the first where the test holds, else the second
 abbrev pub pick {ℓ} : {A : Type ℓ} → Bool → A → A → A
@@ -8,5 +8,4 @@ pick false a b = b
 
 -- the first test holds, and the second does
 abbrev pub both : Bool → Bool → Bool
-both true b = b
-both false b = false
+both a b = a && b

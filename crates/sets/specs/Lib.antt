@@ -1,6 +1,8 @@
 pub mod Settles
 pub mod Choice
 pub mod Sets
+pub mod Semilattice
+pub mod Joined
 pub mod Bounded
 pub mod Majority
 pub mod Cases

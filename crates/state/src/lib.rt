@@ -39,7 +39,7 @@ pub struct Stepped {
 fn fresh_run(first: u16) -> Run
     ensures { result ≡ fresh first }
 {
-    let notes = books::no_book().notes;
+    let notes = Book::none().notes;
     let book = Book {
         notes,
         config: Config {
@@ -110,7 +110,7 @@ fn differs(listed: Listed, later: usize) -> bool
     let change = listed.changes[later];
     listed.changes[..later]
         .iter()
-        .all(|earlier| !books::same_config(*earlier, change))
+        .all(|earlier| *earlier != change)
 }
 
 // Whether all listed changes differ.
