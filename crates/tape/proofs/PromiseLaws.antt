@@ -28,10 +28,6 @@ pub recorded-refused : (first : ℕ) (e : Refusal) (o : Outcome) → Err e ≡ c
 recorded-refused first e (Ok xs) h = cc
 recorded-refused first e (Err d) h = cc
 
-pub refused-is : (first : ℕ) (e : Refusal) (o : Outcome) → Err e ≡ recorded_as first o → o ≡ Err e
-refused-is first e (Ok xs) h = cc
-refused-is first e (Err d) h = cc
-
 pub recorded-is : (first : ℕ) (r : Recorded) (o : Outcome) → Ok r ≡ recorded_as first o → (o ≡ Ok (words_of o)) × (r ≡ recorded first (length (words_of o)))
 recorded-is first r (Ok xs) h = (refl, cc)
 recorded-is first r (Err d) h = cc

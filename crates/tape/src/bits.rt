@@ -60,7 +60,7 @@ pub(crate) fn ahead(bytes: &[u8], at: usize) -> u64
     eight_at(bytes, at / 8) << (at % 8)
 }
 
-// A byte into its place, if there is one.
+// A byte into its place, if there is one. By its index: after a `get_mut` nothing is known of the other bytes.
 fn set_byte(buf: &mut [u8], place: usize, byte: u64)
     requires { byte < 256 }
     ensures { buf.new ≡ set buf.old place byte }

@@ -92,7 +92,7 @@ impl Part<'_> {
         end_or(self.edition, kind, window, left, Refusal::NoStep)
     }
 
-    // How many steps it has, or what is wrong with it.
+    // How many steps it has, or what is wrong with it. 01 names the form of the loop: the enum is taken apart by let .. else.
     fn count_steps(self) -> Result<usize, Refusal>
         ensures { result ≡ counted 0 (read_steps (edition_of self.entry.edition) (bits_of self.entry.bytes.now)) }
     {

@@ -39,7 +39,7 @@ fn put_end(edition: Edition, buf: &mut [u8], at: usize)
     put(buf, at, mark.width + zeros, mark.number << zeros);
 }
 
-// The steps and the end mark into a buffer, from where the steps begin.
+// The steps and the end mark into a buffer, from where the steps begin. A word that is no step takes no bits.
 fn pack_steps(edition: Edition, buf: &mut [u8], words: &[u64])
     requires { (length (body (edition_of edition) words.now) ≤ 40000) × (start (edition_of edition) + length (steps_part (edition_of edition) words.now) ≤ 8 * length buf.old) }
     ensures { bits_of buf.new ≡ overlaid (bits_of buf.old) (start (edition_of edition)) (steps_part (edition_of edition) words.now) }

@@ -11,7 +11,7 @@ use Rattle.tape.specs.Reading.{words_of, read_steps, first_boxes, read_tape}
 use Rattle.tape.specs.Promises.{read_answer, recorded, held_by}
 use Rattle.tape.specs.declared.Recorded.{Recorded}
 use Rattle.tape.proofs.LayLaws.{part-from}
-use Rattle.tape.proofs.PromiseLaws.{handed-on, refused-is, recorded-is, refusal-kept, short-kept, success-kept}
+use Rattle.tape.proofs.PromiseLaws.{recorded-is, success-kept}
 use Rattle.tape.proofs.TapeLaws.{GoodHead, head-there, head-given, part-reads}
 use Rattle.tape.proofs.read_tape.Goals.{In_ok-recorded}
 use Rattle.tape.proofs.read_tape.Goals as goal
@@ -35,20 +35,6 @@ accepted c =
 
 count : (c : In_ok-recorded) → c.in_ok-recorded.recorded.steps ≡ length (words_of (read_tape c.args.tape.now))
 count c = ap (λ (r : Recorded). r.steps) (accepted c).holds
-
-pub returns-in_err-recorded : goal.returns-in_err-recorded
-returns-in_err-recorded c =
-    let s = c.args.tape.now in
-    let e = c.in_err-recorded.field-0.0 in
-    let p = refusal-kept c.args.row.now (values s) (read_tape s) e (refused-is (first_boxes s) e (read_tape s) c.in_err-recorded.ensures) in
-    record { told = ap read_answer (handed-on c.from_residual.result e c.from_residual.ensures.1) ∙ p.told; row_is = p.held }
-
-pub returns-then-row-recorded : goal.returns-then-row-recorded
-returns-then-row-recorded c =
-    let at = goal.at.returns-then-row-recorded c in
-    let s = c.args.tape.now in
-    let p = short-kept c.args.row.now (values s) (read_tape s) (words_of (read_tape s)) (accepted at.In_ok-recorded).is (omega (arith, c.if-row-recorded.true, count at.In_ok-recorded)) in
-    record { told = p.told; row_is = p.held }
 
 pub slice_bounds-part-count : goal.slice_bounds-part-count
 slice_bounds-part-count c = let g = (accepted (goal.at.slice_bounds-part-count c).In_ok-recorded).good in omega (arith, g.least)

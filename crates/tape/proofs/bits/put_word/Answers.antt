@@ -42,11 +42,6 @@ loop-from-preserved c =
     let k : c.min-count.result ≡ 16 = omega arith in
     (omega arith, c.put.auto.buf ∙ c.loop-from.invariant.1, laid (goal.at.loop-from-preserved c).After-put ∙ ap (λ n. overlaid (bits_of c.args.buf.now) c.args.at (take (c.loop-from.from + n) (bits 64 c.args.word))) k)
 
-pub returns : goal.returns
-returns c =
-    let e : c.loop-from.from ≡ c.args.width = omega arith in
-    c.loop-from.invariant.2 ∙ ap (λ n. overlaid (bits_of c.args.buf.now) c.args.at (take n (bits 64 c.args.word))) e
-
 pub returns-2 : goal.returns-2
 returns-2 c =
     let e : c.loop-from.from + c.min-count.result ≡ c.args.width = omega arith in

@@ -107,12 +107,3 @@ loop-place-preserved c =
           ∙ lay-more (take l.place-index (xs ed s)) c.args.row.now x l.place-index (length-take-le l.place-index (xs ed s) i.some) (omega (arith, n.next.0, c.requires.room))
           ∙ ap (λ z. z ++ drop (l.place-index + 1) c.args.row.now) (sym n.next.2);
     }
-
--- where no place is left, no word is
-pub returns : goal.returns
-returns c =
-    let l = c.loop-place in
-    let ed = edition_of c.args.self.edition in
-    let s = c.args.self.bytes.now in
-    let i = l.invariant in
-    all-laid ed s c.args.row.now l.row l.at l.place-index c.requires.good c.requires.room i (omega (arith, i.some, c.requires.room))
