@@ -36,10 +36,7 @@ pub trait Form {
 }
 
 fn hands_back_a_book(outcome: Outcome) -> bool {
-    matches!(
-        outcome,
-        Ok(Accepted::Committed(_) | Accepted::Adopted(_))
-    )
+    matches!(outcome, Ok(Accepted::Committed(_) | Accepted::Adopted(_)))
 }
 
 // Takes the steps from the start. A refused step leaves the run going.

@@ -50,10 +50,7 @@ fn counted(step: Step, slots: &[Slot]) -> usize
     ensures { result ≡ pick (row step).counts (many is_free slots.now) 0 }
 {
     if rules::about_step(step).counts {
-        slots
-            .iter()
-            .filter(|slot| slot.message.is_empty())
-            .count()
+        slots.iter().filter(|slot| slot.message.is_empty()).count()
     } else {
         0
     }
@@ -100,9 +97,7 @@ fn is_proper(run: &Run) -> bool
 fn first_free(slots: &[Slot]) -> Option<usize>
     ensures { result ≡ position is_free slots.now }
 {
-    slots
-        .iter()
-        .position(|slot| slot.message.is_empty())
+    slots.iter().position(|slot| slot.message.is_empty())
 }
 
 // Messages to a set of devices, in order, laid into the lowest free slots in one pass.

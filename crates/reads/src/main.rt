@@ -1,8 +1,8 @@
 // Reads the tape on standard input a thousand times and prints how many steps that gave: what tools/bench measures of the reader.
 #![tactic(auto)]
 
-use std::io;
 use refusals::Refusal;
+use std::io;
 use tape::Recorded;
 
 // How many steps a reading gave.
