@@ -104,11 +104,6 @@ module _ (listed : Listed) (devices : List Contents) (tablets : List Tablet) whe
       both-assoc (all_different listed) contents_proper tablets_proper
       ∙ both_true (both (all_different listed) (both contents_proper tablets_proper)) (le-leb listed.count 6 h)
 
-pub desk-is : (listed : Listed) (devices : List Contents) (tablets : List Tablet) {changes contents rounds : Bool} → listed.count ≤ 6
-    → changes ≡ all_different listed → contents ≡ all (proper_contents listed.count) devices
-    → rounds ≡ all (proper_tablet listed.count) tablets → both (both changes contents) rounds ≡ proper_desk listed devices tablets
-desk-is listed devices tablets h p q s = rw (p, q, s) (desk-up-to listed devices tablets h)
-
 -- what the test of its message tells of a slot
 abbrev pub up_to_slot : ℕ → Slot → Bool
 up_to_slot n s = proper_up_to n s.message

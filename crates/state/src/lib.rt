@@ -94,12 +94,11 @@ pub fn start(first: u16) -> Stepped
     }
 }
 
-// Whether a set names none but the n listed changes.
+// Whether a set names none but the n listed changes. A set has eight bits.
 fn names_listed(n: usize, t: u8) -> bool
-    requires { n ≤ 6 }
     ensures { result ≡ names_listed n t }
 {
-    (t >> n) == 0
+    8 <= n || (t >> n) == 0
 }
 
 // Whether a listed change differs from those before it.
@@ -122,7 +121,6 @@ fn all_differ(listed: Listed) -> bool
 }
 
 fn proper_phase(n: usize, phase: Phase) -> bool
-    requires { n ≤ 6 }
     ensures { result ≡ proper_phase n phase }
 {
     match phase {
@@ -132,7 +130,6 @@ fn proper_phase(n: usize, phase: Phase) -> bool
 }
 
 fn proper_tablet(n: usize, tablet: Tablet) -> bool
-    requires { n ≤ 6 }
     ensures { result ≡ proper_tablet n tablet }
 {
     (tablet.round <= 1023) & proper_phase(n, tablet.phase)
@@ -159,7 +156,6 @@ fn is_box(d: u8) -> bool
 }
 
 fn proper_letter(n: usize, l: Letter) -> bool
-    requires { n ≤ 6 }
     ensures { result ≡ proper_letter n l }
 {
     l.round <= 1023 && names_listed(n, l.contents.t)
