@@ -29,9 +29,6 @@ notes-decided =
 
 -- ---- Parts
 
-pub part_at : (notes : Notes) (k j : ℕ) → k ≡ j → notes_part notes j ≡ notes_part notes k
-part_at notes k j e = ap (notes_part notes) (sym e)
-
 pub part-past : (notes : Notes) (k : ℕ) → 1 < k → 0 ≡ notes_part notes k
 part-past notes k h =
     pick-false notes.high 0 (ne_eqb k 1 (λ e. lt_irrefl 1 (omega arith)))

@@ -71,14 +71,6 @@ times-on f k a = one_more f (λ (n : ℕ). times f n a) (λ n. refl) k
 
 -- ---- Of each
 
-pub each-zero : (p : ℕ → Bool) → true ≡ each 0 p
-unfolding each
-each-zero p = refl
-
-pub each_on : (p : ℕ → Bool) (k : ℕ) {cur next : Bool} → cur ≡ each k p → next ≡ both cur (p k) → next ≡ each (k + 1) p
-unfolding each
-each_on p k = one_more (λ (n : ℕ) (b : Bool). both b (p n)) (λ (n : ℕ). each n p) (λ n. refl) k
-
 -- what holds of each holds of one
 pub each_at : (k : ℕ) (p : ℕ → Bool) → each k p ≡ true → (n : ℕ) → n < k → p n ≡ true
 unfolding each
