@@ -26,6 +26,7 @@ pub struct Asking {
     pub floor: Option<Book>,
 }
 
+// No Option of what was saved: document 01 names "the tablet's own phase enum" as the form.
 #[derive(Clone, Copy, PartialEq, Eq)]
 pub enum Phase {
     Idle,
@@ -53,7 +54,7 @@ pub struct Notice {
     pub book: Book,
 }
 
-// What a slot holds.
+// What a slot holds. `Empty` is a case here: an Option around the other three takes 64 bytes and not 56, and a run, which is copied, grows by a tenth.
 #[derive(Clone, Copy, PartialEq, Eq)]
 pub enum Message {
     Empty,
@@ -118,7 +119,7 @@ pub struct Effect {
     pub sending: Sending,
 }
 
-// The number that the table of numbers gives an outcome.
+// The number that the table of numbers gives an outcome: what a caller is told (01, "Where an answer is an enum, a definition gives this paper's number").
 pub fn number_of(outcome: Outcome) -> u8
     ensures { result ≡ number_of outcome }
 {

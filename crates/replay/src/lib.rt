@@ -26,7 +26,7 @@ fn ask_of(f: Fields) -> Step
     }
 }
 
-// The step of a kind and its fields.
+// The step of a kind and its fields. The kind is a number, as the tape gives it: 01 names a match on it as the form.
 fn of_fields(f: Fields) -> Option<Step>
     requires { Small f }
     ensures { result ≡ of_fields f }
