@@ -123,10 +123,7 @@ pub struct Effect {
 pub fn number_of(outcome: Outcome) -> u8
     ensures { result ≡ number_of outcome }
 {
-    match outcome {
-        Ok(_) => 0,
-        Err(refusal) => u8::from(refusal),
-    }
+    outcome.err().map_or(0, u8::from)
 }
 
 // What the join of all books handed back becomes by an outcome.

@@ -23,6 +23,7 @@ struct Placed<T> {
 }
 
 impl<T> Placed<T> {
+    // One that is given, as the parts of an example are kept.
     fn at(place: u64, value: T) -> Option<Self> {
         let place = place as usize;
         Some(Placed { place, value })

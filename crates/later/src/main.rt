@@ -13,12 +13,11 @@ fn round(rt: &impl Env) -> Option<u16> {
 }
 
 fn play_from(rt: &(impl Input + Print + Eprint + Env)) -> Result<(), Failure> {
-    let from = round(rt);
-    if from.is_none() {
+    let Some(round) = round(rt) else {
         streams::say(rt, "the first argument is a round, 0 to 65535");
         return Err(Failure::Failed);
-    }
-    lines::show_input(rt, &Played { from })
+    };
+    lines::show_input(rt, &Played { from: Some(round) })
 }
 
 fn main(rt: HostRuntime) {
