@@ -7,12 +7,15 @@ use native.Mathlib.Nat.{lt_irrefl}
 use native.Mathlib.Omega.{arith}
 use lib.ListN.{get_or, take, length, length-take, length-set}
 use lib.Seq.{get_or-take, get_or-set_same, get_or-set_other}
+use borrow.Author.Tests.{ltb-false}
+use Rattle.std.specs.Prelude.{ltb, Some, None}
+use Rattle.std.proofs.lemmas.Option.{none-some}
 use Rattle.sets.specs.Choice.{pick}
 use Rattle.sets.proofs.Parts.{same-ne}
 use Rattle.books.specs.declared.Config.{Config}
 use Rattle.books.specs.declared.Listed.{Listed}
 use Rattle.books.specs.Books.{no_config, same_config}
-use Rattle.books.specs.Queried.{first_place, change_at, place_of, with_change}
+use Rattle.books.specs.Queried.{first_place, change_at, place_of, found, with_change}
 use Rattle.books.proofs.BookLaws.{configs-decided}
 
 -- ---- The first that passes
@@ -61,6 +64,15 @@ module _ (listed : Listed) (change : Config) where
       let q = (is-first (same_config change) no_config xs).passes (omega (arith, long)) in
       sym (configs-decided.same_eq change (get_or xs (first_place (same_config change) xs) no_config) q
       ∙ get_or-take listed.count listed.changes (first_place (same_config change) xs) no_config h)
+
+  -- a list whose count is over the six that it has room for: the place of a change that is not found is six
+  pub place-past : length listed.changes ≡ 6 → 6 < listed.count → found listed change ≡ None → place_of listed change ≡ 6
+  place-past six l n = go (ltb (place_of listed change) (min listed.count 6)) refl n
+    where
+      go : (b : Bool) → ltb (place_of listed change) (min listed.count 6) ≡ b → pick b (Some (place_of listed change)) None ≡ None
+          → place_of listed change ≡ 6
+      go true e n = absurd (none-some (place_of listed change) (sym n))
+      go false e n = omega (arith, six, ltb-false (place_of listed change) (min listed.count 6) e, place-le.1)
 
   -- no change before the place is the one looked for: where the place is the number of changes, it is none of them
   pub place-new : (k : ℕ) → k < place_of listed change → change_at listed k ≡ change → ⊥

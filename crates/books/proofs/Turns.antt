@@ -7,11 +7,10 @@ use native.Mathlib.Nat.{zero-add}
 use native.Mathlib.Numerals.{add-one}
 use native.Mathlib.Omega.{arith}
 use lib.ListN.{length, length-map}
-use Rattle.std.specs.Prelude.{Option}
-use Rattle.std.specs.List.{AllWithin, HoldsAt, range_with_len, filter, fold, list_all}
-use Rattle.std.specs.Option.{MatchOption, unwrap_or}
-use Rattle.std.proofs.lemmas.Iterator.{index_from_first}
+use Rattle.std.specs.Prelude.{ltb, Some, None}
+use Rattle.std.specs.List.{position_or_len, range_with_len, filter, fold, list_all}
 use Rattle.std.proofs.lemmas.List.{map-append, map-id}
+use Rattle.std.proofs.lemmas.List.Recursion.{is_position_or_len}
 use Rattle.std.proofs.lemmas.List.FromFn.{map-range_with_len_more}
 use Rattle.std.proofs.lemmas.List.Elements.{filter-append}
 use Rattle.std.proofs.lemmas.List.Sums.{fold-append}
@@ -21,7 +20,7 @@ use Rattle.sets.specs.Choice.{pick, both}
 use Rattle.sets.specs.Sets.{union, inside}
 use Rattle.sets.specs.Bounded.{each, unions, those}
 use Rattle.sets.proofs.SetLaws.{larger-not-inside}
-use Rattle.sets.proofs.BoundedLaws.{both_yes, both-assoc, pick_true, pick-false, each-rest, unions-rest, those-in, those-lt}
+use Rattle.sets.proofs.BoundedLaws.{both_yes, both-assoc, pick-false, each-rest, unions-rest, those-in, those-lt}
 use Rattle.books.specs.declared.Config.{Config}
 use Rattle.books.specs.declared.Listed.{Listed}
 use Rattle.books.specs.Books.{members_of, has_majority}
@@ -33,15 +32,23 @@ length-mapped f l n e = sym (length-map l f) ∙ e
 
 -- ---- Looking for a place in a list
 
--- what `position` finds is the first place, and where it finds none the length is
-pub first-found : {A : Type 0} (p : A → Bool) (xs : List A) (r : Option ℕ)
-    → MatchOption r (AllWithin (λ x. p x ≡ false) xs 0 (length xs))
-    (λ i. (i < length xs) × HoldsAt (λ x. p x ≡ true) xs i × AllWithin (λ x. p x ≡ false) xs 0 i)
-    → first_place p xs ≡ unwrap_or r (length xs)
+pick-cond : {A : Type 0} (b : Bool) (x y : A) → cond b x y ≡ pick b x y
+pick-cond true x y = refl
+pick-cond false x y = refl
+
+-- the first place is the library's
+first-position : {A : Type 0} (p : A → Bool) (xs : List A) → first_place p xs ≡ position_or_len p xs
 unfolding first_place
-first-found p =
-    index_from_first (first_place p) (λ x. p x ≡ true) (λ x. p x ≡ false) refl (λ x xs e. sym (pick_true 0 (suc (first_place p xs)) e))
-    (λ x xs e. sym (pick-false 0 (suc (first_place p xs)) e) ∙ sym (add-one (first_place p xs)))
+first-position p =
+    is_position_or_len (first_place p) p refl
+    (λ x xs. sym (pick-cond (p x) 0 (suc (first_place p xs))) ∙ ap (cond (p x) 0) (omega arith))
+
+-- what `position` finds is the first place, where a list has one
+pub first-found : {A : Type 0} (p : A → Bool) (xs : List A)
+    → cond (ltb (position_or_len p xs) (length xs)) (Some (position_or_len p xs)) None
+    ≡ pick (ltb (first_place p xs) (length xs)) (Some (first_place p xs)) None
+first-found p xs =
+    rw (sym (first-position p xs)) (pick-cond (ltb (first_place p xs) (length xs)) (Some (first_place p xs)) None)
 
 -- ---- One change more of a set
 

@@ -1,6 +1,6 @@
 -- The listed changes, sets of them, and the configurations that a round queries (01, "Begin a round"; Figure 2, lines 7 to 9).
 -- A set of listed changes is a set of their places in the list, 0 to 5.
-use Rattle.std.specs.Prelude.{ℕ, suc, ◌+◌, Bool, true, not, List, [], ◌∷◌, get_or, take, set}
+use Rattle.std.specs.Prelude.{ℕ, suc, ◌+◌, Bool, true, not, ltb, min, Option, Some, None, List, [], ◌∷◌, get_or, take, set}
 use Rattle.sets.specs.Choice.{pick, both}
 use Rattle.sets.specs.Sets.{has, inside}
 use Rattle.sets.specs.Bounded.{times, each, unions, those}
@@ -20,6 +20,10 @@ first_place p (x ∷ xs) = pick (p x) 0 (suc (first_place p xs))
 -- the place of a change among the listed ones, or their number
 unfoldable pub place_of : Listed → Config → ℕ
 place_of listed change = first_place (same_config change) (take listed.count listed.changes)
+
+-- the place of a change among the listed ones, where it is one of them; a list has six places, whatever its count says
+abbrev pub found : Listed → Config → Option ℕ
+found listed change = pick (ltb (place_of listed change) (min listed.count 6)) (Some (place_of listed change)) None
 
 -- "is listed, behind the others"
 unfoldable pub with_change : Listed → Config → Listed

@@ -2,21 +2,20 @@
 #![tactic(auto)]
 
 ghost use Rattle.std.specs.Prelude.{◌≡◌, ◌⊎◌, ◌<◌, ◌≤◌};
-ghost use Rattle.books.specs.Queried.{place_of, outside, joined_with, every_majority, asked_boxes};
+ghost use Rattle.books.specs.Queried.{found, outside, joined_with, every_majority, asked_boxes};
 
 use crate::{Config, Listed};
 use sets::Joins;
 
 impl Listed {
-    // The place of a change among the listed ones, or their number.
-    pub fn place_of(self, change: Config) -> usize
-        ensures { result ≡ place_of self change }
+    // The place of a change among the listed ones.
+    pub fn place_of(self, change: Config) -> Option<usize>
+        ensures { result ≡ found self change }
     {
         self.changes
             .iter()
             .take(self.count)
             .position(|other| change == *other)
-            .unwrap_or(self.count.min(6))
     }
 
     // Of a set of changes, those not contained in a configuration.

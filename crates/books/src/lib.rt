@@ -10,19 +10,19 @@ mod changes;
 use sets::Joins;
 
 // Notes as a set of 128: note n has weight 2^n in `low`, from 64 on 2^(n - 64) in `high`. Only this crate takes them apart.
-#[derive(Clone, Copy, PartialEq, Eq, Debug)]
+#[derive(Clone, Copy, Default, PartialEq, Eq, Debug)]
 pub struct Notes {
     low: u64,
     high: u64,
 }
 
-#[derive(Clone, Copy, PartialEq, Eq, Debug)]
+#[derive(Clone, Copy, Default, PartialEq, Eq, Debug)]
 pub struct Config {
     pub added: u16,
     pub removed: u16,
 }
 
-#[derive(Clone, Copy, PartialEq, Eq, Debug)]
+#[derive(Clone, Copy, Default, PartialEq, Eq, Debug)]
 pub struct Book {
     pub notes: Notes,
     pub config: Config,
@@ -54,7 +54,7 @@ impl Notes {
                 low: 0,
                 high: placed,
             },
-            _ => Notes { low: 0, high: 0 },
+            _ => Notes::default(),
         }
     }
 
@@ -125,13 +125,7 @@ impl Book {
     pub fn none() -> Book
         ensures { result ≡ no_book }
     {
-        Book {
-            notes: Notes { low: 0, high: 0 },
-            config: Config {
-                added: 0,
-                removed: 0,
-            },
-        }
+        Book::default()
     }
 }
 

@@ -2,6 +2,8 @@
 ghost use Rattle.std.specs.Prelude.{◌≡◌, ◌<◌, ◌^◌};
 ghost use Rattle.rules.specs.Rules.{ask_with, ask_pair, ask};
 
+use crate::refusing::stopped;
+use crate::rounds::begin;
 use books::{Config, Listed, Notes};
 use devices::{Accepted, Contents, Effect, Here, Phase};
 use refusals::Refusal;
@@ -18,10 +20,11 @@ fn ask_with(tablet: u8, own: u16, pair: u8, listed: Listed, h: Here) -> Result<E
         t: pair,
     };
     let c = h.contents.merge(listed, asked);
-    crate::rounds::begin(tablet, Accepted::Done, None, listed, c, h)
+    begin(tablet, Accepted::Done, None, listed, c, h)
 }
 
-// The set of one listed change.
+// The set of one listed change. The sets of one device and of one box are made in the crate devices: they differ from it in the type and
+// the offset, and no bound says what `<<` gives, so that one generic function could not promise it.
 fn only_change(place: usize) -> u8
     requires { place < 8 }
     ensures { result ≡ 2 ^ place }
@@ -38,12 +41,15 @@ fn ask_pair(tablet: u8, own: u16, pair: Config, h: Here) -> Result<Effect, Refus
     if pair.is_inside(h.contents.v.config) {
         return ask_with(tablet, own, 0, listed, h);
     }
-    let place = listed.place_of(pair);
-    if place < listed.count {
+    if let Some(place) = listed.place_of(pair) {
         return ask_with(tablet, own, only_change(place), listed, h);
     }
     let count = listed.count;
-    if 5 < count {
+    // No state lists more than six. Of such a list the definition says that a pair not found has place 6, which is below the count.
+    if 6 < count {
+        return ask_with(tablet, own, only_change(6), listed, h);
+    }
+    if count == 6 {
         return Err(Refusal::SeventhChange);
     }
     let mut more = listed;
@@ -56,7 +62,7 @@ fn ask_pair(tablet: u8, own: u16, pair: Config, h: Here) -> Result<Effect, Refus
 pub(crate) fn ask_rule(tablet: u8, own: u16, pair: Config, h: Here) -> Result<Effect, Refusal>
     ensures { result ≡ ask tablet own pair h }
 {
-    crate::refusing::stopped(h)?;
+    stopped(h)?;
     match h.tablet.phase {
         Phase::Idle => ask_pair(tablet, own, pair, h),
         Phase::Asks(_) => Err(Refusal::Asking),

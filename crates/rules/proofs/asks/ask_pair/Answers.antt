@@ -1,9 +1,14 @@
-use Rattle.std.proofs.Common.{rules, ◌≡◌, length, arith}
+use Rattle.std.proofs.Common.{rules, ◌≡◌, length, sym, ◌∙◌}
+use Rattle.books.specs.Queried.{place_of}
 use Rattle.books.proofs.Turns.{length-mapped}
-use Rattle.books.proofs.ListedLaws.{place-le}
+use Rattle.books.proofs.ListedLaws.{place-past}
+use Rattle.rules.specs.Rules.{ask_pair}
 use Rattle.rules.proofs.asks.ask_pair.Goals as goal
 
-pub only_change-requires : goal.only_change-requires
-only_change-requires c =
-    let n : length c.args.h.listed.changes ≡ 6 = search (rules, length-mapped) in
-    omega (arith, n, c.place_of-place.ensures, (place-le c.args.h.listed c.args.pair).1)
+pub returns-then-count-gt6 : goal.returns-then-count-gt6
+unfolding ask_pair
+returns-then-count-gt6 c =
+    let six : length c.args.h.listed.changes ≡ 6 = search (rules, length-mapped) in
+    let place : place_of c.args.h.listed c.args.pair ≡ 6 =
+      place-past c.args.h.listed c.args.pair six c.if-count-gt6.true (sym c.place_of.ensures ∙ c.in_default.is) in
+    search rules
