@@ -44,7 +44,8 @@ impl Listed {
         joined
     }
 
-    // Whether every queried configuration has a majority among the boxes that answered. No subset of t is a larger number than t.
+    // Whether every queried configuration has a majority among the boxes that answered. No subset of t is a larger number than t,
+    // and none of a set of the six places is larger than 63.
     pub fn every_majority(self, config: Config, t: u8, answered: u16) -> bool
         ensures { result ≡ every_majority self config t answered }
     {
@@ -55,7 +56,8 @@ impl Listed {
             .all(|queried| queried.has_majority(answered))
     }
 
-    // The boxes that are members of any queried configuration. The walk stands here again: its closures have no type that a function could give.
+    // The boxes that are members of any queried configuration. The walk stands here again: its closures have no type that a function could give,
+    // an iterator of our own with its members and their proofs is longer than these three lines, and one fold for both would not stop early.
     pub fn asked_boxes(self, config: Config, t: u8) -> u16
         ensures { result ≡ asked_boxes self config t }
     {

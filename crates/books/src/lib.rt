@@ -10,6 +10,7 @@ mod changes;
 use sets::Joins;
 
 // Notes as a set of 128: note n has weight 2^n in `low`, from 64 on 2^(n - 64) in `high`. Only this crate takes them apart.
+// Two words and no `u128`: `notes_part` (specs/Books.antt) and `InWords` (specs/Statements.antt) speak of parts of 64 bits.
 #[derive(Clone, Copy, Default, PartialEq, Eq, Debug)]
 pub struct Notes {
     low: u64,
@@ -30,7 +31,7 @@ pub struct Book {
 
 // The list of changes: the first `count` of six places. The count stands beside the places, and may be over 6, because a caller gives
 // the list: that a state has over 6 changes must be sayable of it, so that it can be refused.
-#[derive(Clone, Copy, PartialEq, Eq, Debug)]
+#[derive(Clone, Copy, Default, PartialEq, Eq, Debug)]
 pub struct Listed {
     pub changes: [Config; 6],
     pub count: usize,
