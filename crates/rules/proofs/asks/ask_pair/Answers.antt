@@ -10,5 +10,5 @@ unfolding ask_pair
 returns-then-count-gt6 c =
     let six : length c.args.h.listed.changes ≡ 6 = search (rules, length-mapped) in
     let place : place_of c.args.h.listed c.args.pair ≡ 6 =
-      place-past c.args.h.listed c.args.pair six c.if-count-gt6.true (sym c.place_of.ensures ∙ c.in_default.is) in
+    place-past c.args.h.listed c.args.pair six c.if-count-gt6.true (sym c.place_of.ensures ∙ c.in_default.is) in
     search rules
