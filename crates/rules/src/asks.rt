@@ -23,8 +23,8 @@ fn ask_with(tablet: u8, own: u16, pair: u8, listed: Listed, h: Here) -> Result<E
     begin(tablet, Accepted::Done, None, listed, c, h)
 }
 
-// The set of one listed change. The sets of one device and of one box are made in the crate devices: they differ from it in the type and
-// the offset, and no bound says what `<<` gives, so that one generic function could not promise it.
+// The set of one listed change. The sets of one device and one box (devices) and of one stopped device (parlour) differ from it in the type
+// and the offset, and no bound says what `<<` gives: one generic function could not promise it.
 fn only_change(place: usize) -> u8
     requires { place < 8 }
     ensures { result ≡ 2 ^ place }

@@ -4,12 +4,12 @@
 ghost use Rattle.std.specs.Prelude.{◌≡◌};
 ghost use Rattle.rules.specs.Rules.{lose, again, stop, ruled, ruled_if, effect_of};
 
-use advances::advance_rule;
-use asks::ask_rule;
-use deliveries::deliver_rule;
+use crate::advances::advance_rule;
+use crate::asks::ask_rule;
+use crate::deliveries::deliver_rule;
+use crate::refusing::{stopped, too_few_slots};
 use devices::{Accepted, Effect, Here, Message, Sending, Step};
 use refusals::Refusal;
-use refusing::{stopped, too_few_slots};
 
 mod advances;
 mod asks;
