@@ -8,7 +8,8 @@ use crate::{Config, Listed};
 use sets::Joins;
 
 impl Listed {
-    // The place of a change among the listed ones, or their number.
+    // The place of a change among the listed ones, or their number. No Option: `ask_pair` (rules/specs) compares the place with the count,
+    // which may be over six in a list that is no state's, and an Option makes of that a branch of its own there (tried).
     pub fn place_of(self, change: Config) -> usize
         ensures { result ≡ place_of self change }
     {
@@ -45,7 +46,8 @@ impl Listed {
         joined
     }
 
-    // Whether every queried configuration has a majority among the boxes that answered. No subset of t is a larger number than t.
+    // Whether every queried configuration has a majority among the boxes that answered. No subset of t is a larger number than t,
+    // and none of a set of the six places is larger than 63.
     pub fn every_majority(self, config: Config, t: u8, answered: u16) -> bool
         ensures { result ≡ every_majority self config t answered }
     {
@@ -56,7 +58,8 @@ impl Listed {
             .all(|queried| queried.has_majority(answered))
     }
 
-    // The boxes that are members of any queried configuration. The walk stands here again: its closures have no type that a function could give.
+    // The boxes that are members of any queried configuration. The walk stands here again: its closures have no type that a function could give,
+    // an iterator of our own with its members and their proofs is longer than these three lines, and one fold for both would not stop early.
     pub fn asked_boxes(self, config: Config, t: u8) -> u16
         ensures { result ≡ asked_boxes self config t }
     {

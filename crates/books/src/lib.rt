@@ -10,19 +10,20 @@ mod changes;
 use sets::Joins;
 
 // Notes as a set of 128: note n has weight 2^n in `low`, from 64 on 2^(n - 64) in `high`. Only this crate takes them apart.
-#[derive(Clone, Copy, PartialEq, Eq, Debug)]
+// Two words and no `u128`: `notes_part` (specs/Books.antt) and `InWords` (specs/Statements.antt) speak of parts of 64 bits.
+#[derive(Clone, Copy, Default, PartialEq, Eq, Debug)]
 pub struct Notes {
     low: u64,
     high: u64,
 }
 
-#[derive(Clone, Copy, PartialEq, Eq, Debug)]
+#[derive(Clone, Copy, Default, PartialEq, Eq, Debug)]
 pub struct Config {
     pub added: u16,
     pub removed: u16,
 }
 
-#[derive(Clone, Copy, PartialEq, Eq, Debug)]
+#[derive(Clone, Copy, Default, PartialEq, Eq, Debug)]
 pub struct Book {
     pub notes: Notes,
     pub config: Config,
@@ -30,7 +31,7 @@ pub struct Book {
 
 // The list of changes: the first `count` of six places. The count stands beside the places, and may be over 6, because a caller gives
 // the list: that a state has over 6 changes must be sayable of it, so that it can be refused.
-#[derive(Clone, Copy, PartialEq, Eq, Debug)]
+#[derive(Clone, Copy, Default, PartialEq, Eq, Debug)]
 pub struct Listed {
     pub changes: [Config; 6],
     pub count: usize,
@@ -54,7 +55,7 @@ impl Notes {
                 low: 0,
                 high: placed,
             },
-            _ => Notes { low: 0, high: 0 },
+            _ => Notes::default(),
         }
     }
 
@@ -125,13 +126,7 @@ impl Book {
     pub fn none() -> Book
         ensures { result ≡ no_book }
     {
-        Book {
-            notes: Notes { low: 0, high: 0 },
-            config: Config {
-                added: 0,
-                removed: 0,
-            },
-        }
+        Book::default()
     }
 }
 

@@ -2,6 +2,8 @@
 ghost use Rattle.std.specs.Prelude.{◌≡◌};
 ghost use Rattle.rules.specs.Rules.{hands_back, floor_inside, decided, allowed, steady, or_set, commit, adopt_or, advance_from, advance};
 
+use crate::refusing::{next_round, stopped, too_few_slots};
+use crate::rounds::begin;
 use books::Book;
 use devices::{Accepted, Asking, Effect, Here, Message, Notice, Phase, Sending, Tablet};
 use refusals::Refusal;
@@ -32,11 +34,11 @@ fn is_allowed(a: Asking, h: Here) -> bool
 fn is_steady(a: Asking, h: Here) -> bool
     ensures { result ≡ steady a h }
 {
-    (h.contents.v.config == a.config) & (h.contents.t == a.t)
+    h.contents.v.config == a.config && h.contents.t == a.t
 }
 
-// The floor, set if it is unset.
-fn set_floor(floor: Option<Book>, b: Book) -> Option<Book>
+// A floor that stays if it is set, and becomes a book if it is unset.
+fn floor_or(floor: Option<Book>, b: Book) -> Option<Book>
     ensures { result ≡ or_set floor b }
 {
     floor.or(Some(b))
@@ -61,7 +63,7 @@ fn hand_back(answer: Accepted, sending: Sending, h: Here) -> Effect
 fn commit_rule(tablet: u8, b: Book, h: Here) -> Result<Effect, Refusal>
     ensures { result ≡ commit tablet b h }
 {
-    crate::refusing::too_few_slots(24, h)?;
+    too_few_slots(24, h)?;
     let sending = Sending {
         message: Message::Commit(Notice {
             from: tablet,
@@ -74,7 +76,7 @@ fn commit_rule(tablet: u8, b: Book, h: Here) -> Result<Effect, Refusal>
 }
 
 // Whether a set floor is contained in v.
-fn reached(floor: Option<Book>, v: Book) -> bool
+fn is_floor_inside(floor: Option<Book>, v: Book) -> bool
     ensures { result ≡ floor_inside floor v }
 {
     floor.is_some_and(|b| b.is_inside(v))
@@ -86,11 +88,11 @@ fn adopt_or(tablet: u8, floor: Option<Book>, h: Here) -> Result<Effect, Refusal>
     ensures { result ≡ adopt_or tablet floor h }
 {
     let v = h.contents.v;
-    if reached(floor, v) {
+    if is_floor_inside(floor, v) {
         return Ok(hand_back(Accepted::Adopted(v), Sending::none(), h));
     }
-    let round = crate::refusing::next_round(h)?;
-    crate::rounds::begin(
+    let round = next_round(h)?;
+    begin(
         tablet,
         Accepted::Round(round),
         floor,
@@ -111,14 +113,14 @@ fn advance_from(tablet: u8, a: Asking, h: Here) -> Result<Effect, Refusal>
     if h.contents.candidates == a.candidates {
         return commit_rule(tablet, b, h);
     }
-    adopt_or(tablet, set_floor(a.floor, b), h)
+    adopt_or(tablet, floor_or(a.floor, b), h)
 }
 
 #[tactic(auto, unfolding(crate::specs::Rules::advance))]
 pub(crate) fn advance_rule(tablet: u8, h: Here) -> Result<Effect, Refusal>
     ensures { result ≡ advance tablet h }
 {
-    crate::refusing::stopped(h)?;
+    stopped(h)?;
     let Phase::Asks(a) = h.tablet.phase else {
         return Err(Refusal::Idle);
     };

@@ -2,6 +2,8 @@
 ghost use Rattle.std.specs.Prelude.{◌≡◌, ◌<◌, ◌^◌};
 ghost use Rattle.rules.specs.Rules.{ask_with, ask_pair, ask};
 
+use crate::refusing::stopped;
+use crate::rounds::begin;
 use books::{Config, Listed, Notes};
 use devices::{Accepted, Contents, Effect, Here, Phase};
 use refusals::Refusal;
@@ -18,10 +20,11 @@ fn ask_with(tablet: u8, own: u16, pair: u8, listed: Listed, h: Here) -> Result<E
         t: pair,
     };
     let c = h.contents.merge(listed, asked);
-    crate::rounds::begin(tablet, Accepted::Done, None, listed, c, h)
+    begin(tablet, Accepted::Done, None, listed, c, h)
 }
 
-// The set of one listed change.
+// The set of one listed change. The sets of one device and one box (devices) and of one stopped device (parlour) differ from it in the type
+// and the offset, and no bound says what `<<` gives: one generic function could not promise it.
 fn only_change(place: usize) -> u8
     requires { place < 8 }
     ensures { result ≡ 2 ^ place }
@@ -56,7 +59,7 @@ fn ask_pair(tablet: u8, own: u16, pair: Config, h: Here) -> Result<Effect, Refus
 pub(crate) fn ask_rule(tablet: u8, own: u16, pair: Config, h: Here) -> Result<Effect, Refusal>
     ensures { result ≡ ask tablet own pair h }
 {
-    crate::refusing::stopped(h)?;
+    stopped(h)?;
     match h.tablet.phase {
         Phase::Idle => ask_pair(tablet, own, pair, h),
         Phase::Asks(_) => Err(Refusal::Asking),

@@ -3,10 +3,12 @@ ghost use Rattle.std.specs.Prelude.{◌≡◌};
 ghost use Rattle.devices.specs.declared.Message.{Message};
 ghost use Rattle.rules.specs.Rules.{heard, marked, deliver};
 
+use crate::refusing::stopped;
 use devices::{
     Accepted, Asking, Contents, Effect, Here, Letter, Message, Notice, Phase, Sending, Tablet,
 };
 use refusals::Refusal;
+use sets::Joins;
 
 // What a delivery leaves.
 fn hear(contents: Contents, tablet: Tablet, sending: Sending, h: Here) -> Effect
@@ -29,7 +31,7 @@ fn mark(l: Letter, x: Tablet) -> Tablet
     match x.phase {
         Phase::Asks(a) if l.round == x.round => Tablet {
             phase: Phase::Asks(Asking {
-                answered: a.answered | devices::box_of(l.from),
+                answered: a.answered.join(devices::box_of(l.from)),
                 ..a
             }),
             ..x
@@ -43,7 +45,7 @@ fn mark(l: Letter, x: Tablet) -> Tablet
 fn hear_request(l: Letter, h: Here) -> Result<Effect, Refusal>
     ensures { result ≡ deliver (Message.Request l) h }
 {
-    crate::refusing::stopped(h)?;
+    stopped(h)?;
     let contents = h.contents.merge(h.listed, l.contents);
     let answer = Sending {
         message: Message::Answer(Letter {
@@ -62,7 +64,7 @@ fn hear_request(l: Letter, h: Here) -> Result<Effect, Refusal>
 fn hear_answer(l: Letter, h: Here) -> Result<Effect, Refusal>
     ensures { result ≡ deliver (Message.Answer l) h }
 {
-    crate::refusing::stopped(h)?;
+    stopped(h)?;
     let contents = h.contents.merge(h.listed, l.contents);
     Ok(hear(contents, mark(l, h.tablet), Sending::none(), h))
 }
@@ -72,7 +74,7 @@ fn hear_answer(l: Letter, h: Here) -> Result<Effect, Refusal>
 fn hear_commit(n: Notice, h: Here) -> Result<Effect, Refusal>
     ensures { result ≡ deliver (Message.Commit n) h }
 {
-    crate::refusing::stopped(h)?;
+    stopped(h)?;
     let brought = Contents {
         v: n.book,
         candidates: n.book.notes,

@@ -2,8 +2,12 @@
 #![tactic(auto)]
 
 ghost use Rattle.std.specs.Prelude.{◌≡◌};
-ghost use Rattle.rules.specs.Rules.{leaves, lose, again, stop, ruled, ruled_if, effect_of};
+ghost use Rattle.rules.specs.Rules.{lose, again, stop, ruled, ruled_if, effect_of};
 
+use crate::advances::advance_rule;
+use crate::asks::ask_rule;
+use crate::deliveries::deliver_rule;
+use crate::refusing::{stopped, too_few_slots};
 use devices::{Accepted, Effect, Here, Message, Sending, Step};
 use refusals::Refusal;
 
@@ -16,18 +20,6 @@ mod table;
 
 pub use table::{About, Named, about_step};
 
-// What a step leaves that touches no device.
-fn leave(frees: bool, stops: bool, sending: Sending, h: Here) -> Effect
-    ensures { result ≡ leaves frees stops sending h }
-{
-    Effect {
-        frees,
-        stops,
-        sending,
-        ..h.unchanged(Ok(Accepted::Done))
-    }
-}
-
 #[tactic(auto, unfolding(crate::specs::Rules::lose))]
 fn lose_rule(m: Message, h: Here) -> Result<Effect, Refusal>
     ensures { result ≡ lose m h }
@@ -35,7 +27,10 @@ fn lose_rule(m: Message, h: Here) -> Result<Effect, Refusal>
     if m.is_empty() {
         return Err(Refusal::EmptySlot);
     }
-    Ok(leave(true, false, Sending::none(), h))
+    Ok(Effect {
+        frees: true,
+        ..h.unchanged(Ok(Accepted::Done))
+    })
 }
 
 #[tactic(auto, unfolding(crate::specs::Rules::again))]
@@ -45,17 +40,25 @@ fn repeat_rule(m: Message, h: Here) -> Result<Effect, Refusal>
     if m.is_empty() {
         return Err(Refusal::EmptySlot);
     }
-    refusing::too_few_slots(1, h)?;
-    let to = devices::only_device(m.addressee());
-    Ok(leave(false, false, Sending { message: m, to }, h))
+    too_few_slots(1, h)?;
+    Ok(Effect {
+        sending: Sending {
+            message: m,
+            to: devices::only_device(m.addressee()),
+        },
+        ..h.unchanged(Ok(Accepted::Done))
+    })
 }
 
 #[tactic(auto, unfolding(crate::specs::Rules::stop))]
 fn stop_rule(h: Here) -> Result<Effect, Refusal>
     ensures { result ≡ stop h }
 {
-    refusing::stopped(h)?;
-    Ok(leave(false, true, Sending::none(), h))
+    stopped(h)?;
+    Ok(Effect {
+        stops: true,
+        ..h.unchanged(Ok(Accepted::Done))
+    })
 }
 
 #[tactic(auto, unfolding(crate::specs::Rules::ruled))]
@@ -67,9 +70,9 @@ fn rule(step: Step, m: Message, h: Here) -> Result<Effect, Refusal>
             tablet,
             notes,
             pair,
-        } => asks::ask_rule(tablet, notes, pair, h),
-        Step::Advance(tablet) => advances::advance_rule(tablet, h),
-        Step::Deliver(_) => deliveries::deliver_rule(m, h),
+        } => ask_rule(tablet, notes, pair, h),
+        Step::Advance(tablet) => advance_rule(tablet, h),
+        Step::Deliver(_) => deliver_rule(m, h),
         Step::Lose(_) => lose_rule(m, h),
         Step::Repeat(_) => repeat_rule(m, h),
         Step::Stop(_) => stop_rule(h),

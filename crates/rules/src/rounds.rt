@@ -2,11 +2,13 @@
 ghost use Rattle.std.specs.Prelude.{◌≡◌};
 ghost use Rattle.rules.specs.Rules.{begun};
 
+use crate::refusing::{next_round, too_few_slots};
 use books::{Book, Listed};
 use devices::{Accepted, Asking, Contents, Effect, Here, Letter, Message, Phase, Sending, Tablet};
 use refusals::Refusal;
 
-// A round begins with these contents, floor and listed changes.
+// A round begins with these contents, floor and listed changes. The tablet's number comes beside `Here`: that is what the rule of every step
+// sees, and only Ask and Advance have a tablet's number, so specs/Rules.antt takes the two apart too.
 #[tactic(auto, unfolding(crate::specs::Rules::begun))]
 pub(crate) fn begin(
     tablet: u8,
@@ -18,9 +20,9 @@ pub(crate) fn begin(
 ) -> Result<Effect, Refusal>
     ensures { result ≡ begun tablet answer floor listed c h }
 {
-    let round = crate::refusing::next_round(h)?;
+    let round = next_round(h)?;
     let boxes = listed.asked_boxes(c.v.config, c.t);
-    crate::refusing::too_few_slots(sets::count_boxes(boxes) as usize, h)?;
+    too_few_slots(sets::count_boxes(boxes) as usize, h)?;
     Ok(Effect {
         contents: c,
         tablet: Tablet {

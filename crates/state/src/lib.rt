@@ -7,7 +7,7 @@ ghost use Rattle.books.specs.Books.{same_config};
 ghost use Rattle.books.specs.Queried.{change_at};
 ghost use Rattle.state.specs.State.{fresh, StartPromise, names_listed, all_different, proper_phase, proper_tablet, proper_letter, proper_up_to, proper_desk, is_box};
 
-use books::{Book, Config, Listed};
+use books::{Book, Config, Listed, Notes};
 use devices::{Accepted, Contents, Letter, Message, Outcome, Phase, Tablet};
 use refusals::Refusal;
 
@@ -39,26 +39,20 @@ pub struct Stepped {
 fn fresh_run(first: u16) -> Run
     ensures { result ≡ fresh first }
 {
-    let notes = Book::none().notes;
-    let book = Book {
-        notes,
-        config: Config {
-            added: first,
-            removed: 0,
-        },
-    };
     let contents = Contents {
-        v: book,
-        candidates: notes,
+        v: Book {
+            config: Config {
+                added: first,
+                removed: 0,
+            },
+            ..Book::none()
+        },
+        candidates: Notes::default(),
         t: 0,
     };
     let tablet = Tablet {
         round: 0,
         phase: Phase::Idle,
-    };
-    let change = Config {
-        added: 0,
-        removed: 0,
     };
     Run {
         devices: [contents; 24],
@@ -66,12 +60,9 @@ fn fresh_run(first: u16) -> Run
         slots: [Slot {
             message: Message::Empty,
         }; 128],
-        listed: Listed {
-            changes: [change; 6],
-            count: 0,
-        },
+        listed: Listed::default(),
         stopped: 0,
-        kept: book,
+        kept: contents.v,
         first,
     }
 }

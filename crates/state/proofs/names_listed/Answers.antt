@@ -1,5 +1,5 @@
 -- From place 8 on no set of eight bits names anything.
-use Rattle.std.proofs.Common.{◌<◌, ◌^◌, true, ◌∙◌, sym, arith}
+use Rattle.std.proofs.Common.{◌<◌, ◌^◌, ◌∙◌, sym, arith}
 use borrow.Author.Tests.{le-leb}
 use Rattle.std.proofs.Math.Pow.{pow_mono}
 use Rattle.state.proofs.StateLaws.{lt-names}
