@@ -15,7 +15,6 @@ mod reading;
 mod writing;
 
 use edition::Edition;
-use layout::Layout;
 use reading::Part;
 use refusals::Refusal;
 
@@ -40,7 +39,7 @@ pub struct Fields {
 pub fn tape_check(tape: &[u8]) -> Result<(), Refusal>
     ensures { CheckPromise tape.now (number_of result) }
 {
-    reading::check(Edition::First, tape)?;
+    Edition::First.check(tape)?;
     Ok(())
 }
 
@@ -48,7 +47,7 @@ pub fn tape_check(tape: &[u8]) -> Result<(), Refusal>
 pub fn read_tape(tape: &[u8], row: &mut [u64]) -> Result<Recorded, Refusal>
     ensures { ReadPromise tape.now row.old result row.new }
 {
-    let recorded = reading::check(Edition::First, tape)?;
+    let recorded = Edition::First.check(tape)?;
     if row.len() < recorded.steps {
         return Err(Refusal::RowTooShort);
     }
@@ -67,8 +66,8 @@ pub fn write_tape(first: u16, words: &[u64], buf: &mut [u8]) -> Result<usize, Re
     if first == 0 {
         return Err(Refusal::NoFirstBox);
     }
-    let count = writing::measure(Edition::First, words).ok_or(Refusal::NoStep)?;
-    let size = 2 + writing::bytes_for(Edition::First, count);
+    let count = Edition::First.measure(words).ok_or(Refusal::NoStep)?;
+    let size = 2 + Edition::First.bytes_for(count);
     if 4096 < size {
         return Err(Refusal::TapeTooLong);
     }
@@ -83,7 +82,7 @@ pub fn write_tape(first: u16, words: &[u64], buf: &mut [u8]) -> Result<usize, Re
 pub fn is_step(word: u64) -> bool
     ensures { result ≡ is_step first_edition word }
 {
-    layout::step_width(Edition::First, word).is_some()
+    Edition::First.step_width(word).is_some()
 }
 
 // The fields of a step word, by the layout of its kind.
@@ -91,7 +90,7 @@ pub fn fields_of(word: u64) -> Fields
     ensures { result ≡ fields_in first_edition word }
 {
     let kind = bits::field(word, 0, 3);
-    let Some(layout) = Layout::of(Edition::First, kind) else {
+    let Some(layout) = Edition::First.layout(kind) else {
         return Fields {
             kind,
             first: 0,

@@ -1,4 +1,4 @@
--- `reading::head` meets its contract: each test of the code is the same test of `head_of`.
+-- `Edition::head_of` meets its contract: each test of the code is the same test of `head_of`.
 use native.Mathlib.Omega.{arith}
 use mathlib.Core.Path.{◌≡◌, sym, ap, ◌∙◌}
 use Prim.Native.Nat.{◌+◌, ◌/◌, ◌≤◌, ◌<◌}
@@ -8,13 +8,13 @@ use Rattle.std.specs.Prelude.{Ok}
 use Rattle.tape.specs.Edition.{edition_of}
 use Rattle.tape.specs.Reading.{least_bytes, head_of}
 use Rattle.tape.specs.declared.edition.Head.{Head}
-use Rattle.tape.proofs.reading.head.Goals.{After-head, Else-tape-head}
-use Rattle.tape.proofs.reading.head.Goals as goal
+use Rattle.tape.proofs.edition.Edition.head_of.Goals.{After-head, Else-tape-head}
+use Rattle.tape.proofs.edition.Edition.head_of.Goals as goal
 
-least : (c : After-head) → c.head.result.width / 8 + 1 ≡ least_bytes (edition_of c.args.edition)
+least : (c : After-head) → c.head.result.width / 8 + 1 ≡ least_bytes (edition_of c.args.self)
 least c = ap (λ (h : Head). h.width / 8 + 1) c.head.ensures
 
-enough : (c : Else-tape-head) → least_bytes (edition_of c.args.edition) ≤ length c.args.tape.now
+enough : (c : Else-tape-head) → least_bytes (edition_of c.args.self) ≤ length c.args.tape.now
 enough c = omega (arith, c.if-tape-head.false, least (goal.at.Else-tape-head c).After-head)
 
 pub returns-then-tape-gt4096 : goal.returns-then-tape-gt4096
@@ -24,7 +24,7 @@ returns-then-tape-gt4096 c = sym (simp (lt-ltb _ _ c.if-tape-gt4096.true))
 pub returns-then-tape-head : goal.returns-then-tape-head
 unfolding head_of
 returns-then-tape-head c =
-    let few : length c.args.tape.now < least_bytes (edition_of c.args.edition) = omega (arith, c.if-tape-head.true, least (goal.at.returns-then-tape-head c).After-head) in
+    let few : length c.args.tape.now < least_bytes (edition_of c.args.self) = omega (arith, c.if-tape-head.true, least (goal.at.returns-then-tape-head c).After-head) in
     sym (simp (le-ltb _ _ c.if-tape-gt4096.false, lt-ltb _ _ few))
 
 pub returns-then-first-eq0 : goal.returns-then-first-eq0
