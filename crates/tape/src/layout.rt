@@ -53,7 +53,7 @@ impl Layout {
         }
     }
 
-    // The layout of a kind in the first edition; none where no step has the kind.
+    // The layout of a kind in the first edition; none where no step has the kind. 01 names this form: a match on the number.
     fn in_first(kind: u64) -> Option<Self>
         ensures { result ≡ layout_of (fields first_edition kind) }
     {

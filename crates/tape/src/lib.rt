@@ -18,6 +18,12 @@ use edition::Edition;
 use reading::Part;
 use refusals::Refusal;
 
+// How many bytes a tape has at most (01, "The tape").
+pub const MOST_BYTES: usize = 4096;
+
+// How many steps such a tape has at most: a step takes 6 bits at least.
+pub const MOST_STEPS: usize = 5458;
+
 // What a tape holds: its first boxes, and how many words of the row its steps take.
 #[derive(Clone, Copy, Debug, PartialEq, Eq)]
 pub struct Recorded {
@@ -26,6 +32,7 @@ pub struct Recorded {
 }
 
 // The kind of a step word and the numbers in its fields, in the order of the tape; 0 for a field that the kind has not.
+// The kind is a number, as in `fields_in` and in the match that 01 names: a word that is no step has one too.
 #[derive(Clone, Copy, Debug, PartialEq, Eq)]
 pub struct Fields {
     pub kind: u64,
@@ -51,6 +58,7 @@ pub fn read_tape(tape: &[u8], row: &mut [u64]) -> Result<Recorded, Refusal>
     if row.len() < recorded.steps {
         return Err(Refusal::RowTooShort);
     }
+    // 01 names this form: the tape from the third byte on goes to the reader of the steps.
     let part = Part {
         edition: Edition::First,
         bytes: &tape[2..],
@@ -60,21 +68,21 @@ pub fn read_tape(tape: &[u8], row: &mut [u64]) -> Result<Recorded, Refusal>
 }
 
 // First boxes and step words as a tape in a lent buffer; how many bytes of it the tape takes.
-pub fn write_tape(first: u16, words: &[u64], buf: &mut [u8]) -> Result<usize, Refusal>
-    ensures { WritePromise first words.now buf.old result buf.new }
+pub fn write_tape(first: u16, words: &[u64], buffer: &mut [u8]) -> Result<usize, Refusal>
+    ensures { WritePromise first words.now buffer.old result buffer.new }
 {
     if first == 0 {
         return Err(Refusal::NoFirstBox);
     }
     let count = Edition::First.measure(words).ok_or(Refusal::NoStep)?;
     let size = 2 + Edition::First.bytes_for(count);
-    if 4096 < size {
+    if MOST_BYTES < size {
         return Err(Refusal::TapeTooLong);
     }
-    if buf.len() < size {
+    if buffer.len() < size {
         return Err(Refusal::RowTooShort);
     }
-    writing::lay_tape(buf, first, words);
+    writing::lay_tape(buffer, first, words);
     Ok(size)
 }
 

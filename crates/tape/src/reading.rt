@@ -4,13 +4,14 @@ ghost use Rattle.tape.specs.Bits.{num, bits, bits_of};
 ghost use Rattle.tape.specs.Edition.{edition_of};
 ghost use Rattle.tape.specs.Reading.{end_at, end_or, read_at, start, read_steps, read_in, head_of, boxes_in, words_of};
 ghost use Rattle.tape.specs.Promises.{counted, ended_at, recorded_as, held_by};
+ghost use Rattle.tape.specs.declared.TheConstants.{MOST_BYTES};
 
-use crate::Recorded;
 use crate::bits::{ahead, eight_at, field, top};
 use crate::edition::Edition;
+use crate::{MOST_BYTES, Recorded};
 use refusals::Refusal;
 
-// Each reading ends as a step with the next bit position, or as a refusal, or as the end of the tape.
+// "Each reading ends as a step with the next bit position, or as a refusal, or as the end of the tape": 01 names this form.
 #[derive(Clone, Copy)]
 pub(crate) enum Reading {
     Step(u64, usize),
@@ -50,7 +51,7 @@ fn tail(word: u64, mark: usize, left: usize) -> Reading
 pub(crate) struct Part<'a> {
     pub(crate) edition: Edition,
     pub(crate) bytes: &'a [u8],
-    ghost short: { length bytes.now ≤ 4096 },
+    ghost short: { length bytes.now ≤ MOST_BYTES },
     ghost begun: { start (edition_of edition) ≤ 8 * length bytes.now },
 }
 
@@ -140,7 +141,7 @@ impl Edition {
     fn head_of(self, tape: &[u8]) -> Result<u16, Refusal>
         ensures { result ≡ head_of (edition_of self) tape.now }
     {
-        if 4096 < tape.len() {
+        if MOST_BYTES < tape.len() {
             return Err(Refusal::TapeTooLong);
         }
         if tape.len() < self.head().width / 8 + 1 {
@@ -158,6 +159,7 @@ impl Edition {
         ensures { result ≡ recorded_as (boxes_in (edition_of self) tape.now) (read_in (edition_of self) tape.now) }
     {
         let first = self.head_of(tape)?;
+        // 01 names this form: the tape from the third byte on goes to the reader of the steps.
         let part = Part {
             edition: self,
             bytes: &tape[2..],

@@ -17,23 +17,23 @@ least c = ap (λ (h : Head). h.width / 8 + 1) c.head.ensures
 enough : (c : Else-tape-head) → least_bytes (edition_of c.args.self) ≤ length c.args.tape.now
 enough c = omega (arith, c.if-tape-head.false, least (goal.at.Else-tape-head c).After-head)
 
-pub returns-then-tape-gt4096 : goal.returns-then-tape-gt4096
+pub returns-then-tape-gt-MOST_BYTES : goal.returns-then-tape-gt-MOST_BYTES
 unfolding head_of
-returns-then-tape-gt4096 c = sym (simp (lt-ltb _ _ c.if-tape-gt4096.true))
+returns-then-tape-gt-MOST_BYTES c = sym (simp (lt-ltb _ _ c.if-tape-gt-MOST_BYTES.true))
 
 pub returns-then-tape-head : goal.returns-then-tape-head
 unfolding head_of
 returns-then-tape-head c =
     let few : length c.args.tape.now < least_bytes (edition_of c.args.self) = omega (arith, c.if-tape-head.true, least (goal.at.returns-then-tape-head c).After-head) in
-    sym (simp (le-ltb _ _ c.if-tape-gt4096.false, lt-ltb _ _ few))
+    sym (simp (le-ltb _ _ c.if-tape-gt-MOST_BYTES.false, lt-ltb _ _ few))
 
 pub returns-then-first-eq0 : goal.returns-then-first-eq0
 unfolding head_of
 returns-then-first-eq0 c =
-    sym (simp (le-ltb _ _ c.if-tape-gt4096.false, le-ltb _ _ (enough (goal.at.returns-then-first-eq0 c).Else-tape-head), eq-eqb _ _ (sym c.first_boxes-first.ensures ∙ c.if-first-eq0.true)))
+    sym (simp (le-ltb _ _ c.if-tape-gt-MOST_BYTES.false, le-ltb _ _ (enough (goal.at.returns-then-first-eq0 c).Else-tape-head), eq-eqb _ _ (sym c.first_boxes-first.ensures ∙ c.if-first-eq0.true)))
 
 pub returns : goal.returns
 unfolding head_of
 returns c =
     ap Ok c.first_boxes-first.ensures
-    ∙ sym (simp (le-ltb _ _ c.if-tape-gt4096.false, le-ltb _ _ (enough (goal.at.returns c).Else-tape-head), ne_eqb _ _ (λ z. c.if-first-eq0.false (c.first_boxes-first.ensures ∙ z))))
+    ∙ sym (simp (le-ltb _ _ c.if-tape-gt-MOST_BYTES.false, le-ltb _ _ (enough (goal.at.returns c).Else-tape-head), ne_eqb _ _ (λ z. c.if-first-eq0.false (c.first_boxes-first.ensures ∙ z))))

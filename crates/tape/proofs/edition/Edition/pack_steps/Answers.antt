@@ -70,11 +70,11 @@ width c =
     c.unwrap_or-width.ensures ∙ ap (λ w. unwrap_or w 0) c.step_width.ensures ∙ width-or-none ed x
 
 -- the step before which the loop stands
-one : (c : After-unwrap_or-width) → (c.unwrap_or-width.result ≤ 64) × (c.loop-word.at + c.unwrap_or-width.result ≤ 8 * length c.loop-word.buf) × (c.loop-word.at + c.unwrap_or-width.result ≤ 40064)
+one : (c : After-unwrap_or-width) → (c.unwrap_or-width.result ≤ 64) × (c.loop-word.at + c.unwrap_or-width.result ≤ 8 * length c.loop-word.buffer) × (c.loop-word.at + c.unwrap_or-width.result ≤ 40064)
 one c =
     let l = c.loop-word in
     let a = c.args in
-    fits (edition_of a.self) a.words.now a.buf.now l.buf l.at l.word-index c.requires.0 c.requires.1 l.invariant (search rules) c.unwrap_or-width.result (width c)
+    fits (edition_of a.self) a.words.now a.buffer.now l.buffer l.at l.word-index c.requires.0 c.requires.1 l.invariant (search rules) c.unwrap_or-width.result (width c)
 
 pub loop-word-init : goal.loop-word-init
 unfolding body
@@ -84,7 +84,7 @@ loop-word-init c =
       some = search rules;
       next = c.start-at.ensures ∙ sym (add-zero (start ed));
       same = refl;
-      laid = sym (overlaid-nil (bits_of c.args.buf.now) (start ed));
+      laid = sym (overlaid-nil (bits_of c.args.buffer.now) (start ed));
     }
 
 pub put_word-requires : goal.put_word-requires
@@ -98,17 +98,17 @@ loop-word-preserved c =
     let l = c.loop-word in
     let a = c.args in
     let q = c.put_word in
-    further (edition_of a.self) a.words.now a.buf.now l.buf l.at l.word-index c.requires.0 c.requires.1 l.invariant (search rules) c.unwrap_or-width.result (width (goal.at.loop-word-preserved c).After-unwrap_or-width) q.new.buf q.auto.buf q.ensures
+    further (edition_of a.self) a.words.now a.buffer.now l.buffer l.at l.word-index c.requires.0 c.requires.1 l.invariant (search rules) c.unwrap_or-width.result (width (goal.at.loop-word-preserved c).After-unwrap_or-width) q.new.buffer q.auto.buffer q.ensures
 
 pub put_end-requires : goal.put_end-requires
 put_end-requires c =
     let l = c.loop-word in
     let a = c.args in
-    end_fits (edition_of a.self) a.words.now a.buf.now l.buf l.at l.word-index c.requires.0 c.requires.1 l.invariant (search rules)
+    end_fits (edition_of a.self) a.words.now a.buffer.now l.buffer l.at l.word-index c.requires.0 c.requires.1 l.invariant (search rules)
 
 pub returns : goal.returns
 returns c =
     let l = c.loop-word in
     let a = c.args in
     c.put_end.ensures
-    ∙ ended (edition_of a.self) a.words.now a.buf.now l.buf l.at l.word-index c.requires.0 c.requires.1 l.invariant (search rules)
+    ∙ ended (edition_of a.self) a.words.now a.buffer.now l.buffer l.at l.word-index c.requires.0 c.requires.1 l.invariant (search rules)

@@ -17,4 +17,4 @@ pub record Packed (ed : Edition) (xs s b : List ℕ) (p i : ℕ) : Type 0 where
   pub laid : bits_of b ≡ overlaid (bits_of s) (start ed) (body ed (take i xs))
 
 abbrev pub invariant-loop-word : goal.invariant-loop-word
-invariant-loop-word l = Packed (edition_of l.self) l.words l.initial.buf l.buf l.at l.word-index
+invariant-loop-word l = Packed (edition_of l.self) l.words l.initial.buffer l.buffer l.at l.word-index

@@ -45,4 +45,4 @@ put-requires c =
 pub returns : goal.returns
 returns c =
     let a = c.args in
-    c.put.ensures ∙ ap (overlaid (bits_of a.buf.now) a.at) (at-end (goal.at.returns c).After-mark-mark).is
+    c.put.ensures ∙ ap (overlaid (bits_of a.buffer.now) a.at) (at-end (goal.at.returns c).After-mark-mark).is
