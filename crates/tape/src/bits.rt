@@ -94,11 +94,8 @@ pub(crate) fn put(buffer: &mut [u8], at: usize, width: usize, value: u64)
     ensures { bits_of buffer.new ≡ overlaid (bits_of buffer.old) at (bits width value) }
 {
     let old = bytes_at(buffer, at / 8, 3);
-    store(
-        buffer,
-        at / 8,
-        blend(old, width, 24 - at % 8 - width, value),
-    );
+    let number = blend(old, width, 24 - at % 8 - width, value);
+    store(buffer, at / 8, number);
 }
 
 // The first bits of a word, so many, into the bits from a bit on, sixteen at a time.
