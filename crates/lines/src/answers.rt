@@ -25,6 +25,7 @@ struct Handed(Book);
 impl fmt::Display for Handed {
     fn fmt<W: fmt::Write>(&self, f: &mut fmt::Formatter<W>) -> fmt::Result {
         let book = self.0;
+        // By their numbers: `Notes` hides its words, so there is no iterator over them.
         for part in (0..Notes::PARTS).rev() {
             write!(f, "{:016x}", book.notes.part(part))?;
         }

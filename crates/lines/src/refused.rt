@@ -2,6 +2,7 @@
 use refusals::Refusal;
 use streams::say;
 
+// The reason alone, where there is one. No Display: the type is of another crate, and only this line says it so.
 fn reason(refusal: Refusal) -> &'static str {
     match refusal {
         Refusal::TapeTooLong => ": it is over 4,096 bytes",

@@ -55,7 +55,7 @@ fn write_steps<W: fmt::Write>(
         if hands_back_a_book(stepped.outcome) {
             books += 1;
         }
-        // No word of a tape that was read is no step.
+        // Each word of a tape that was read is a step.
         if let Some(step) = replay::decode(*word) {
             form.write_step(out, number, step, stepped.outcome)?;
         }
@@ -75,8 +75,7 @@ fn show_steps(
 }
 
 fn show_tape(rt: &(impl Print + Eprint), form: &impl Form, tape: &[u8]) -> Result<(), Failure> {
-    // A step takes 6 bits at least, so a tape of 4,096 bytes has no more than 5,458.
-    let mut row = [0u64; 5458];
+    let mut row = [0u64; tape::MOST_STEPS];
     match tape::read_tape(tape, &mut row) {
         Ok(recorded) => show_steps(rt, form, recorded.first, &row[..recorded.steps]),
         Err(refusal) => form.refuse(rt, refusal),
@@ -86,7 +85,7 @@ fn show_tape(rt: &(impl Print + Eprint), form: &impl Form, tape: &[u8]) -> Resul
 // Shows the tape on standard input.
 pub fn show_input(rt: &(impl Input + Print + Eprint), form: &impl Form) -> Result<(), Failure> {
     // One byte more than a tape has at most, so that a longer one is refused by 11.
-    let mut bytes = [0u8; 4097];
+    let mut bytes = [0u8; tape::MOST_BYTES + 1];
     let length = read_all(rt, &mut bytes)?;
     show_tape(rt, form, &bytes[..length])
 }

@@ -11,8 +11,7 @@ fn steps_in(read: Result<Recorded, Refusal>) -> u64 {
 }
 
 fn read_often(tape: &[u8]) -> u64 {
-    // A step takes 6 bits at least, so a tape of 4,096 bytes has no more than 5,458.
-    let mut row = [0u64; 5458];
+    let mut row = [0u64; tape::MOST_STEPS];
     let mut steps: u64 = 0;
     for _ in 0..1000 {
         // No word of a row is all ones: the next reading waits for the row, so that none of them can be left out.
@@ -23,7 +22,8 @@ fn read_often(tape: &[u8]) -> u64 {
 }
 
 fn main(rt: HostRuntime) -> io::Result<()> {
-    let mut bytes = [0u8; 4097];
+    // One byte more than a tape has at most, so that a longer one is refused by 11.
+    let mut bytes = [0u8; tape::MOST_BYTES + 1];
     let n = streams::read_all(&rt, &mut bytes).unwrap_or_else(|failed| failed.length);
     let steps = read_often(&bytes[..n]);
     println!(rt; "{steps}")

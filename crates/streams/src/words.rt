@@ -4,7 +4,7 @@ ghost use Rattle.std.specs.Prelude.{◌≤◌, IfSome};
 use std::rt::Env;
 
 // A word: its first eight bytes, so that words of up to eight can be told apart; how many bytes it has; and the number that it is in
-// decimal and in hexadecimal digits, if it is one.
+// decimal and in hexadecimal digits, if it is one. The bytes are no ArrayVec: the length goes past eight, and a word is Copy.
 #[derive(Clone, Copy, Debug, PartialEq, Eq)]
 pub struct Word {
     front: [u8; 8],
@@ -60,6 +60,7 @@ impl Word {
     }
 }
 
+// Not derived: a word of no bytes has the numbers Some(0), not None.
 impl Default for Word {
     fn default() -> Self {
         Word::new()

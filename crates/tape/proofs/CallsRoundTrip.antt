@@ -46,12 +46,12 @@ head-is : (a b : ℕ) (v w : List ℕ) → a ∷ v ≡ b ∷ w → a ≡ b
 head-is a b v w e = cc
 
 -- a tape that was written reads back as its first boxes and words, into any row that is long enough
-pub written-reads : (first : ℕ) (words buf after row row' : List ℕ) (n : ℕ) (r : Result Recorded Refusal) → first < 2 ^ 16 → length words ≤ length row
-    → WritePromise first words buf (Ok n) after → ReadPromise (take n after) row r row'
+pub written-reads : (first : ℕ) (words buffer after row row' : List ℕ) (n : ℕ) (r : Result Recorded Refusal) → first < 2 ^ 16 → length words ≤ length row
+    → WritePromise first words buffer (Ok n) after → ReadPromise (take n after) row r row'
     → (r ≡ Ok (recorded first (length words))) × (row' ≡ words ++ drop (length words) row)
-written-reads first words buf after row row' n r h l w p =
-    let s = success (length buf) (λ bytes. length bytes ∷ []) (write_tape first words) n [] w.told in
-    let t : take n after ≡ s.xs = front buf after (write_tape first words) s.xs n w.buf_is s.is s.fits (head-is n (length s.xs) [] [] s.values) in
+written-reads first words buffer after row row' n r h l w p =
+    let s = success (length buffer) (λ bytes. length bytes ∷ []) (write_tape first words) n [] w.told in
+    let t : take n after ≡ s.xs = front buffer after (write_tape first words) s.xs n w.buffer_is s.is s.fits (head-is n (length s.xs) [] [] s.values) in
     let b = read_written first words s.xs h s.is in
     let q : read_tape (take n after) ≡ Ok words = ap read_tape t ∙ b.0 in
     let f : first_boxes (take n after) ≡ first = ap first_boxes t ∙ b.1 in
@@ -60,15 +60,15 @@ written-reads first words buf after row row' n r h l w p =
     record { told = ap (λ z. answer 0 (z ∷ length words ∷ [])) (sym f) ∙ k.told; row_is = k.held }
 
 -- a tape that was read writes again as the same bytes, into any buffer that is long enough
-pub read-writes : (tape row after buf buf' : List ℕ) (first n : ℕ) (r : Result ℕ Refusal) → Bytes tape → length tape ≤ length buf
-    → ReadPromise tape row (Ok (recorded first n)) after → WritePromise first (take n after) buf r buf'
-    → (r ≡ Ok (length tape)) × (buf' ≡ tape ++ drop (length tape) buf)
-read-writes tape row after buf buf' first n r b l p w =
+pub read-writes : (tape row after buffer buffer' : List ℕ) (first n : ℕ) (r : Result ℕ Refusal) → Bytes tape → length tape ≤ length buffer
+    → ReadPromise tape row (Ok (recorded first n)) after → WritePromise first (take n after) buffer r buffer'
+    → (r ≡ Ok (length tape)) × (buffer' ≡ tape ++ drop (length tape) buffer)
+read-writes tape row after buffer buffer' first n r b l p w =
     let s = success (length row) (λ xs. first_boxes tape ∷ length xs ∷ []) (read_tape tape) first (n ∷ []) p.told in
     let e : first ≡ first_boxes tape = head-is first (first_boxes tape) (n ∷ []) (length s.xs ∷ []) s.values in
     let m : n ≡ length s.xs = let v : first ∷ n ∷ [] ≡ first_boxes tape ∷ length s.xs ∷ [] = s.values in cc in
     let t : take n after ≡ s.xs = front row after (read_tape tape) s.xs n p.row_is s.is s.fits m in
     let q : write_tape first (take n after) ≡ Ok tape = ap₂ write_tape e t ∙ written_again tape s.xs b s.is in
-    let k = success-kept buf (λ bytes. length bytes ∷ []) (write_tape first (take n after)) tape q l in
-    write-settled first (take n after) buf r (Ok (length tape)) buf' (tape ++ drop (length tape) buf) w
-    record { told = k.told; buf_is = k.held }
+    let k = success-kept buffer (λ bytes. length bytes ∷ []) (write_tape first (take n after)) tape q l in
+    write-settled first (take n after) buffer r (Ok (length tape)) buffer' (tape ++ drop (length tape) buffer) w
+    record { told = k.told; buffer_is = k.held }

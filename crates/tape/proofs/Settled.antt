@@ -49,11 +49,11 @@ read-settled tape row r s v w a b =
     let e = a.told ∙ sym b.told in
     (read-one r s (ap (λ x. x.number) e) (ap (λ x. x.values) e), a.row_is ∙ sym b.row_is)
 
-pub write-settled : (first : ℕ) (words buf : List ℕ) (r s : Result ℕ Refusal) (v w : List ℕ) → WritePromise first words buf r v → WritePromise first words buf s w
+pub write-settled : (first : ℕ) (words buffer : List ℕ) (r s : Result ℕ Refusal) (v w : List ℕ) → WritePromise first words buffer r v → WritePromise first words buffer s w
     → (r ≡ s) × (v ≡ w)
-write-settled first words buf r s v w a b =
+write-settled first words buffer r s v w a b =
     let e = a.told ∙ sym b.told in
-    (written-one r s (ap (λ x. x.number) e) (ap (λ x. x.values) e), a.buf_is ∙ sym b.buf_is)
+    (written-one r s (ap (λ x. x.number) e) (ap (λ x. x.values) e), a.buffer_is ∙ sym b.buffer_is)
 
 told-number : (n : ℕ) (vs : List ℕ → List ℕ) (o : Outcome) → ((xs : List ℕ) → o ≡ Ok xs → length xs ≤ n) → (answer_with n vs o).number ≡ number_of o
 told-number n vs (Ok xs) h = simp (le-leb _ _ (h xs refl))

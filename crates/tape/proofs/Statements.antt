@@ -16,7 +16,7 @@ statements =
             read_tape =
                 λ tape row x y p q. let e = read-settled tape row x.0 y.0 x.1 y.1 p q in ap₂ (λ r after. (r, after)) e.0 e.1;
             write_tape =
-                λ first words buf x y p q. let e = write-settled first words buf x.0 y.0 x.1 y.1 p q in ap₂ (λ r after. (r, after)) e.0 e.1;
+                λ first words buffer x y p q. let e = write-settled first words buffer x.0 y.0 x.1 y.1 p q in ap₂ (λ r after. (r, after)) e.0 e.1;
             is_step = λ word. equation-settles _;
             fields_of = λ word. equation-settles _;
           };

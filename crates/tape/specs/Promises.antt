@@ -76,6 +76,6 @@ pub record ReadPromise (tape row : List ℕ) (r : Result Recorded Refusal) (afte
   pub row_is : after ≡ held_by row (read_tape tape)
 
 -- writing first boxes and step words into a buffer
-pub record WritePromise (first : ℕ) (words buf : List ℕ) (r : Result ℕ Refusal) (after : List ℕ) : Type 0 where
-  pub told : written_answer r ≡ answer_with (length buf) (λ bytes. length bytes ∷ []) (write_tape first words)
-  pub buf_is : after ≡ held_by buf (write_tape first words)
+pub record WritePromise (first : ℕ) (words buffer : List ℕ) (r : Result ℕ Refusal) (after : List ℕ) : Type 0 where
+  pub told : written_answer r ≡ answer_with (length buffer) (λ bytes. length bytes ∷ []) (write_tape first words)
+  pub buffer_is : after ≡ held_by buffer (write_tape first words)

@@ -18,7 +18,7 @@ use Rattle.tape.specs.declared.Recorded.{Recorded}
 pub record Settled : Type 0 where
   pub tape_check : (tape : List ℕ) → Settles (λ (r : Checked). CheckPromise tape (number_of r))
   pub read_tape : (tape row : List ℕ) → Settles (λ (r : Result Recorded Refusal × List ℕ). ReadPromise tape row r.0 r.1)
-  pub write_tape : (first : ℕ) (words buf : List ℕ) → Settles (λ (r : Result ℕ Refusal × List ℕ). WritePromise first words buf r.0 r.1)
+  pub write_tape : (first : ℕ) (words buffer : List ℕ) → Settles (λ (r : Result ℕ Refusal × List ℕ). WritePromise first words buffer r.0 r.1)
   pub is_step : (word : ℕ) → Settles (λ (r : Bool). r ≡ is_step first_edition word)
   pub fields_of : (word : ℕ) → Settles (λ (r : Fields). r ≡ fields_in first_edition word)
 
@@ -52,13 +52,13 @@ pub record RoundTrip : Type 0 where
       → (read_tape tape ≡ Ok words) × (first_boxes tape ≡ first)
   pub written_again : (tape words : List ℕ) → Bytes tape → read_tape tape ≡ Ok words → write_tape (first_boxes tape) words ≡ Ok tape
   -- what write_tape wrote, read_tape reads back into any row that is long enough
-  pub write_then_read : (first : ℕ) (words buf after row row' : List ℕ) (n : ℕ) (r : Result Recorded Refusal) → first < 2 ^ 16 → length words ≤ length row
-      → WritePromise first words buf (Ok n) after → ReadPromise (take n after) row r row'
+  pub write_then_read : (first : ℕ) (words buffer after row row' : List ℕ) (n : ℕ) (r : Result Recorded Refusal) → first < 2 ^ 16 → length words ≤ length row
+      → WritePromise first words buffer (Ok n) after → ReadPromise (take n after) row r row'
       → (r ≡ Ok (recorded first (length words))) × (row' ≡ words ++ drop (length words) row)
   -- what read_tape read, write_tape writes again into any buffer that is long enough
-  pub read_then_write : (tape row after buf buf' : List ℕ) (first n : ℕ) (r : Result ℕ Refusal) → Bytes tape → length tape ≤ length buf
-      → ReadPromise tape row (Ok (recorded first n)) after → WritePromise first (take n after) buf r buf'
-      → (r ≡ Ok (length tape)) × (buf' ≡ tape ++ drop (length tape) buf)
+  pub read_then_write : (tape row after buffer buffer' : List ℕ) (first n : ℕ) (r : Result ℕ Refusal) → Bytes tape → length tape ≤ length buffer
+      → ReadPromise tape row (Ok (recorded first n)) after → WritePromise first (take n after) buffer r buffer'
+      → (r ≡ Ok (length tape)) × (buffer' ≡ tape ++ drop (length tape) buffer)
 
 -- ---- "The tape check gives the number that reading gives with a row long enough"
 

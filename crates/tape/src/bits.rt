@@ -1,4 +1,4 @@
-// Fields cut from words and bytes, and set in them, most significant bit first.
+// Fields cut from words and bytes, and set in them, most significant bit first. 01 names this form: shifts and masks.
 ghost use Rattle.std.specs.Prelude.{◌≡◌, ◌+◌, ◌*◌, ◌/◌, ◌%◌, ◌^◌, ◌≤◌, ◌<◌, length, get_or, take, set};
 ghost use Rattle.tape.specs.Bits.{num, bits, bits_of, field_at, word, window, Ahead, overlaid};
 
@@ -61,12 +61,12 @@ pub(crate) fn ahead(bytes: &[u8], at: usize) -> u64
 }
 
 // A byte into its place, if there is one. By its index: after a `get_mut` nothing is known of the other bytes.
-fn set_byte(buf: &mut [u8], place: usize, byte: u64)
+fn set_byte(buffer: &mut [u8], place: usize, byte: u64)
     requires { byte < 256 }
-    ensures { buf.new ≡ set buf.old place byte }
+    ensures { buffer.new ≡ set buffer.old place byte }
 {
-    if place < buf.len() {
-        buf[place] = byte as u8;
+    if place < buffer.len() {
+        buffer[place] = byte as u8;
     }
 }
 
@@ -79,31 +79,32 @@ fn blend(old: u64, width: usize, below: usize, value: u64) -> u64
 }
 
 // A number of 24 bits into the three bytes from a place on, as far as they are there.
-fn store(buf: &mut [u8], from: usize, number: u64)
-    requires { (from < length buf.old) × (number < 2 ^ 24) }
-    ensures { buf.new ≡ set (set (set buf.old from (number / 2 ^ 16)) (from + 1) (number / 2 ^ 8 % 2 ^ 8)) (from + 2) (number % 2 ^ 8) }
+fn store(buffer: &mut [u8], from: usize, number: u64)
+    requires { (from < length buffer.old) × (number < 2 ^ 24) }
+    ensures { buffer.new ≡ set (set (set buffer.old from (number / 2 ^ 16)) (from + 1) (number / 2 ^ 8 % 2 ^ 8)) (from + 2) (number % 2 ^ 8) }
 {
-    set_byte(buf, from, number >> 16);
-    set_byte(buf, from + 1, (number >> 8) & 255);
-    set_byte(buf, from + 2, number & 255);
+    set_byte(buffer, from, number >> 16);
+    set_byte(buffer, from + 1, (number >> 8) & 255);
+    set_byte(buffer, from + 2, number & 255);
 }
 
 // A field into the bits from a bit on; it and the bits around it lie in three bytes.
-pub(crate) fn put(buf: &mut [u8], at: usize, width: usize, value: u64)
-    requires { (1 ≤ width) × (width ≤ 16) × (value < 2 ^ width) × (at + width ≤ 8 * length buf.old) × (at ≤ 65536) }
-    ensures { bits_of buf.new ≡ overlaid (bits_of buf.old) at (bits width value) }
+pub(crate) fn put(buffer: &mut [u8], at: usize, width: usize, value: u64)
+    requires { (1 ≤ width) × (width ≤ 16) × (value < 2 ^ width) × (at + width ≤ 8 * length buffer.old) × (at ≤ 65536) }
+    ensures { bits_of buffer.new ≡ overlaid (bits_of buffer.old) at (bits width value) }
 {
-    let old = bytes_at(buf, at / 8, 3);
-    store(buf, at / 8, blend(old, width, 24 - at % 8 - width, value));
+    let old = bytes_at(buffer, at / 8, 3);
+    let number = blend(old, width, 24 - at % 8 - width, value);
+    store(buffer, at / 8, number);
 }
 
 // The first bits of a word, so many, into the bits from a bit on, sixteen at a time.
-pub(crate) fn put_word(buf: &mut [u8], at: usize, width: usize, word: u64)
-    requires { (width ≤ 64) × (at + width ≤ 8 * length buf.old) × (at ≤ 65000) }
-    ensures { bits_of buf.new ≡ overlaid (bits_of buf.old) at (take width (bits 64 word)) }
+pub(crate) fn put_word(buffer: &mut [u8], at: usize, width: usize, word: u64)
+    requires { (width ≤ 64) × (at + width ≤ 8 * length buffer.old) × (at ≤ 65000) }
+    ensures { bits_of buffer.new ≡ overlaid (bits_of buffer.old) at (take width (bits 64 word)) }
 {
     for from in (0..width).step_by(16) {
         let count = (width - from).min(16);
-        put(buf, at + from, count, field(word, from, count));
+        put(buffer, at + from, count, field(word, from, count));
     }
 }

@@ -53,7 +53,7 @@ impl Layout {
         }
     }
 
-    // The layout of a kind in the first edition; none where no step has the kind.
+    // The layout of a kind in the first edition; none where no step has the kind. 01 names this form: a match on the number.
     fn in_first(kind: u64) -> Option<Self>
         ensures { result ≡ layout_of (fields first_edition kind) }
     {
@@ -88,15 +88,6 @@ impl Layout {
         })
     }
 
-    // The layout of a kind; none where no step has the kind.
-    pub(crate) fn of(edition: Edition, kind: u64) -> Option<Self>
-        ensures { result ≡ layout_of (fields (edition_of edition) kind) }
-    {
-        match edition {
-            Edition::First => Layout::in_first(kind),
-        }
-    }
-
     // The fields of a step word hold numbers that they may hold.
     pub(crate) fn allows(self, word: u64) -> bool
         ensures { result ≡ allowed self.bound word }
@@ -105,14 +96,25 @@ impl Layout {
     }
 }
 
-// How many bits the step in a word takes; none for a word that is no step.
-pub(crate) fn step_width(edition: Edition, word: u64) -> Option<usize>
-    ensures { result ≡ step_width (edition_of edition) word }
-{
-    let layout = Layout::of(edition, field(word, 0, 3))?;
-    if top(word, layout.width) == word && layout.allows(word) {
-        Some(layout.width)
-    } else {
-        None
+impl Edition {
+    // The layout of a kind; none where no step has the kind.
+    pub(crate) fn layout(self, kind: u64) -> Option<Layout>
+        ensures { result ≡ layout_of (fields (edition_of self) kind) }
+    {
+        match self {
+            Edition::First => Layout::in_first(kind),
+        }
+    }
+
+    // How many bits the step in a word takes; none for a word that is no step.
+    pub(crate) fn step_width(self, word: u64) -> Option<usize>
+        ensures { result ≡ step_width (edition_of self) word }
+    {
+        let layout = self.layout(field(word, 0, 3))?;
+        if top(word, layout.width) == word && layout.allows(word) {
+            Some(layout.width)
+        } else {
+            None
+        }
     }
 }

@@ -15,9 +15,14 @@ mod reading;
 mod writing;
 
 use edition::Edition;
-use layout::Layout;
 use reading::Part;
 use refusals::Refusal;
+
+// How many bytes a tape has at most (01, "The tape").
+pub const MOST_BYTES: usize = 4096;
+
+// How many steps such a tape has at most: a step takes 6 bits at least.
+pub const MOST_STEPS: usize = 5458;
 
 // What a tape holds: its first boxes, and how many words of the row its steps take.
 #[derive(Clone, Copy, Debug, PartialEq, Eq)]
@@ -27,6 +32,7 @@ pub struct Recorded {
 }
 
 // The kind of a step word and the numbers in its fields, in the order of the tape; 0 for a field that the kind has not.
+// The kind is a number, as in `fields_in` and in the match that 01 names: a word that is no step has one too.
 #[derive(Clone, Copy, Debug, PartialEq, Eq)]
 pub struct Fields {
     pub kind: u64,
@@ -40,7 +46,7 @@ pub struct Fields {
 pub fn tape_check(tape: &[u8]) -> Result<(), Refusal>
     ensures { CheckPromise tape.now (number_of result) }
 {
-    reading::check(Edition::First, tape)?;
+    Edition::First.check(tape)?;
     Ok(())
 }
 
@@ -48,10 +54,11 @@ pub fn tape_check(tape: &[u8]) -> Result<(), Refusal>
 pub fn read_tape(tape: &[u8], row: &mut [u64]) -> Result<Recorded, Refusal>
     ensures { ReadPromise tape.now row.old result row.new }
 {
-    let recorded = reading::check(Edition::First, tape)?;
+    let recorded = Edition::First.check(tape)?;
     if row.len() < recorded.steps {
         return Err(Refusal::RowTooShort);
     }
+    // 01 names this form: the tape from the third byte on goes to the reader of the steps.
     let part = Part {
         edition: Edition::First,
         bytes: &tape[2..],
@@ -61,21 +68,21 @@ pub fn read_tape(tape: &[u8], row: &mut [u64]) -> Result<Recorded, Refusal>
 }
 
 // First boxes and step words as a tape in a lent buffer; how many bytes of it the tape takes.
-pub fn write_tape(first: u16, words: &[u64], buf: &mut [u8]) -> Result<usize, Refusal>
-    ensures { WritePromise first words.now buf.old result buf.new }
+pub fn write_tape(first: u16, words: &[u64], buffer: &mut [u8]) -> Result<usize, Refusal>
+    ensures { WritePromise first words.now buffer.old result buffer.new }
 {
     if first == 0 {
         return Err(Refusal::NoFirstBox);
     }
-    let count = writing::measure(Edition::First, words).ok_or(Refusal::NoStep)?;
-    let size = 2 + writing::bytes_for(Edition::First, count);
-    if 4096 < size {
+    let count = Edition::First.measure(words).ok_or(Refusal::NoStep)?;
+    let size = 2 + Edition::First.bytes_for(count);
+    if MOST_BYTES < size {
         return Err(Refusal::TapeTooLong);
     }
-    if buf.len() < size {
+    if buffer.len() < size {
         return Err(Refusal::RowTooShort);
     }
-    writing::lay_tape(buf, first, words);
+    writing::lay_tape(buffer, first, words);
     Ok(size)
 }
 
@@ -83,7 +90,7 @@ pub fn write_tape(first: u16, words: &[u64], buf: &mut [u8]) -> Result<usize, Re
 pub fn is_step(word: u64) -> bool
     ensures { result ≡ is_step first_edition word }
 {
-    layout::step_width(Edition::First, word).is_some()
+    Edition::First.step_width(word).is_some()
 }
 
 // The fields of a step word, by the layout of its kind.
@@ -91,7 +98,7 @@ pub fn fields_of(word: u64) -> Fields
     ensures { result ≡ fields_in first_edition word }
 {
     let kind = bits::field(word, 0, 3);
-    let Some(layout) = Layout::of(Edition::First, kind) else {
+    let Some(layout) = Edition::First.layout(kind) else {
         return Fields {
             kind,
             first: 0,

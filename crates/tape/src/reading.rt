@@ -4,14 +4,14 @@ ghost use Rattle.tape.specs.Bits.{num, bits, bits_of};
 ghost use Rattle.tape.specs.Edition.{edition_of};
 ghost use Rattle.tape.specs.Reading.{end_at, end_or, read_at, start, read_steps, read_in, head_of, boxes_in, words_of};
 ghost use Rattle.tape.specs.Promises.{counted, ended_at, recorded_as, held_by};
+ghost use Rattle.tape.specs.declared.TheConstants.{MOST_BYTES};
 
-use crate::Recorded;
 use crate::bits::{ahead, eight_at, field, top};
 use crate::edition::Edition;
-use crate::layout::Layout;
+use crate::{MOST_BYTES, Recorded};
 use refusals::Refusal;
 
-// Each reading ends as a step with the next bit position, or as a refusal, or as the end of the tape.
+// "Each reading ends as a step with the next bit position, or as a refusal, or as the end of the tape": 01 names this form.
 #[derive(Clone, Copy)]
 pub(crate) enum Reading {
     Step(u64, usize),
@@ -46,24 +46,12 @@ fn tail(word: u64, mark: usize, left: usize) -> Reading
     }
 }
 
-// What stands where no step of a kind is, a word having so many bits from there on: the end, by the end mark, or else this refusal.
-fn end_or(edition: Edition, kind: u64, word: u64, left: usize, refusal: Refusal) -> Reading
-    requires { kind ≡ num (take 3 (bits 64 word)) }
-    ensures { result ≡ end_or (edition_of edition) word left refusal }
-{
-    let mark = edition.mark();
-    if kind != mark.kind || left < mark.width || field(word, 3, mark.width - 3) != mark.rest {
-        return Reading::Refused(refusal);
-    }
-    tail(word, mark.width, left - mark.width)
-}
-
 // The part of a tape from the third byte on, behind a whole head: it holds the steps.
 #[derive(Clone, Copy)]
 pub(crate) struct Part<'a> {
     pub(crate) edition: Edition,
     pub(crate) bytes: &'a [u8],
-    ghost short: { length bytes.now ≤ 4096 },
+    ghost short: { length bytes.now ≤ MOST_BYTES },
     ghost begun: { start (edition_of edition) ≤ 8 * length bytes.now },
 }
 
@@ -79,17 +67,19 @@ impl Part<'_> {
             return Reading::Refused(Refusal::EndsTooSoon);
         }
         let kind = field(window, 0, 3);
-        let Some(layout) = Layout::of(self.edition, kind) else {
-            return end_or(self.edition, kind, window, left, Refusal::NoStep);
+        let Some(layout) = self.edition.layout(kind) else {
+            return self.edition.end_or(kind, window, left, Refusal::NoStep);
         };
         if left < layout.width {
-            return end_or(self.edition, kind, window, left, Refusal::EndsTooSoon);
+            return self
+                .edition
+                .end_or(kind, window, left, Refusal::EndsTooSoon);
         }
         let word = top(window, layout.width);
         if layout.allows(word) {
             return Reading::Step(word, at + layout.width);
         }
-        end_or(self.edition, kind, window, left, Refusal::NoStep)
+        self.edition.end_or(kind, window, left, Refusal::NoStep)
     }
 
     // How many steps it has, or what is wrong with it. 01 names the form of the loop: the enum is taken apart by let .. else.
@@ -125,41 +115,56 @@ impl Part<'_> {
     }
 }
 
-// The set of first boxes of a tape that has one.
-fn first_boxes(edition: Edition, tape: &[u8]) -> u16
-    requires { (edition_of edition).head ≤ 8 * length tape.now }
-    ensures { result ≡ boxes_in (edition_of edition) tape.now }
-{
-    let from = edition.head().boxes;
-    field(eight_at(tape, from / 8), from % 8, 16) as u16
-}
+impl Edition {
+    // What stands where no step of a kind is, a word having so many bits from there on: the end, by the end mark, or else this refusal.
+    fn end_or(self, kind: u64, word: u64, left: usize, refusal: Refusal) -> Reading
+        requires { kind ≡ num (take 3 (bits 64 word)) }
+        ensures { result ≡ end_or (edition_of self) word left refusal }
+    {
+        let mark = self.mark();
+        if kind != mark.kind || left < mark.width || field(word, 3, mark.width - 3) != mark.rest {
+            return Reading::Refused(refusal);
+        }
+        tail(word, mark.width, left - mark.width)
+    }
 
-// The first boxes, or what is wrong with a tape before its steps.
-fn head(edition: Edition, tape: &[u8]) -> Result<u16, Refusal>
-    ensures { result ≡ head_of (edition_of edition) tape.now }
-{
-    if 4096 < tape.len() {
-        return Err(Refusal::TapeTooLong);
+    // The set of first boxes of a tape that has one.
+    fn first_boxes(self, tape: &[u8]) -> u16
+        requires { (edition_of self).head ≤ 8 * length tape.now }
+        ensures { result ≡ boxes_in (edition_of self) tape.now }
+    {
+        let from = self.head().boxes;
+        field(eight_at(tape, from / 8), from % 8, 16) as u16
     }
-    if tape.len() < edition.head().width / 8 + 1 {
-        return Err(Refusal::EndsTooSoon);
-    }
-    let first = first_boxes(edition, tape);
-    if first == 0 {
-        return Err(Refusal::NoFirstBox);
-    }
-    Ok(first)
-}
 
-// What a tape holds, or what is wrong with it.
-pub(crate) fn check(edition: Edition, tape: &[u8]) -> Result<Recorded, Refusal>
-    ensures { result ≡ recorded_as (boxes_in (edition_of edition) tape.now) (read_in (edition_of edition) tape.now) }
-{
-    let first = head(edition, tape)?;
-    let part = Part {
-        edition,
-        bytes: &tape[2..],
-    };
-    let steps = part.count_steps()?;
-    Ok(Recorded { first, steps })
+    // The first boxes, or what is wrong with a tape before its steps.
+    fn head_of(self, tape: &[u8]) -> Result<u16, Refusal>
+        ensures { result ≡ head_of (edition_of self) tape.now }
+    {
+        if MOST_BYTES < tape.len() {
+            return Err(Refusal::TapeTooLong);
+        }
+        if tape.len() < self.head().width / 8 + 1 {
+            return Err(Refusal::EndsTooSoon);
+        }
+        let first = self.first_boxes(tape);
+        if first == 0 {
+            return Err(Refusal::NoFirstBox);
+        }
+        Ok(first)
+    }
+
+    // What a tape holds, or what is wrong with it.
+    pub(crate) fn check(self, tape: &[u8]) -> Result<Recorded, Refusal>
+        ensures { result ≡ recorded_as (boxes_in (edition_of self) tape.now) (read_in (edition_of self) tape.now) }
+    {
+        let first = self.head_of(tape)?;
+        // 01 names this form: the tape from the third byte on goes to the reader of the steps.
+        let part = Part {
+            edition: self,
+            bytes: &tape[2..],
+        };
+        let steps = part.count_steps()?;
+        Ok(Recorded { first, steps })
+    }
 }

@@ -7,57 +7,59 @@ ghost use Rattle.tape.specs.Writing.{measured, body, ending, steps_part, bytes_f
 
 use crate::bits::{put, put_word};
 use crate::edition::Edition;
-use crate::layout::step_width;
 
-// The bits that some words take as steps; none where one of them is no step.
-// Counted up to 40,000: more bits than a tape has, and no sum of widths overflows.
-pub(crate) fn measure(edition: Edition, words: &[u64]) -> Option<usize>
-    ensures { result ≡ measured (edition_of edition) words.now }
-{
-    let mut total = 0;
-    for &word in words {
-        total = (total + step_width(edition, word)?).min(40000);
+impl Edition {
+    // The bits that some words take as steps; none where one of them is no step.
+    // Counted up to 40,000: more bits than a tape has, and no sum of widths overflows.
+    pub(crate) fn measure(self, words: &[u64]) -> Option<usize>
+        ensures { result ≡ measured (edition_of self) words.now }
+    {
+        let mut total = 0;
+        for &word in words {
+            total = (total + self.step_width(word)?).min(40000);
+        }
+        Some(total)
     }
-    Some(total)
-}
 
-// The bytes from the third on of a tape whose steps take so many bits.
-pub(crate) fn bytes_for(edition: Edition, count: usize) -> usize
-    requires { count ≤ 40000 }
-    ensures { result ≡ bytes_for (edition_of edition) count }
-{
-    (edition.start() + count + edition.mark().width + 7) / 8
-}
-
-// The end mark at a bit, and zero bits to the byte's edge.
-fn put_end(edition: Edition, buf: &mut [u8], at: usize)
-    requires { (at ≤ 65000) × (at + length (ending (edition_of edition) at) ≤ 8 * length buf.old) }
-    ensures { bits_of buf.new ≡ overlaid (bits_of buf.old) at (ending (edition_of edition) at) }
-{
-    let mark = edition.mark();
-    let zeros = (8 - (at + mark.width) % 8) % 8;
-    put(buf, at, mark.width + zeros, mark.number << zeros);
-}
-
-// The steps and the end mark into a buffer, from where the steps begin. A word that is no step takes no bits.
-fn pack_steps(edition: Edition, buf: &mut [u8], words: &[u64])
-    requires { (length (body (edition_of edition) words.now) ≤ 40000) × (start (edition_of edition) + length (steps_part (edition_of edition) words.now) ≤ 8 * length buf.old) }
-    ensures { bits_of buf.new ≡ overlaid (bits_of buf.old) (start (edition_of edition)) (steps_part (edition_of edition) words.now) }
-{
-    let mut at = edition.start();
-    for &word in words {
-        let width = step_width(edition, word).unwrap_or(0);
-        put_word(buf, at, width, word);
-        at += width;
+    // The bytes from the third on of a tape whose steps take so many bits.
+    pub(crate) fn bytes_for(self, count: usize) -> usize
+        requires { count ≤ 40000 }
+        ensures { result ≡ bytes_for (edition_of self) count }
+    {
+        (self.start() + count + self.mark().width + 7) / 8
     }
-    put_end(edition, buf, at);
+
+    // The end mark at a bit, and zero bits to the byte's edge.
+    fn put_end(self, buffer: &mut [u8], at: usize)
+        requires { (at ≤ 65000) × (at + length (ending (edition_of self) at) ≤ 8 * length buffer.old) }
+        ensures { bits_of buffer.new ≡ overlaid (bits_of buffer.old) at (ending (edition_of self) at) }
+    {
+        let mark = self.mark();
+        let zeros = (8 - (at + mark.width) % 8) % 8;
+        put(buffer, at, mark.width + zeros, mark.number << zeros);
+    }
+
+    // The steps and the end mark into a buffer, from where the steps begin. A word that is no step takes no bits.
+    fn pack_steps(self, buffer: &mut [u8], words: &[u64])
+        requires { (length (body (edition_of self) words.now) ≤ 40000) × (start (edition_of self) + length (steps_part (edition_of self) words.now) ≤ 8 * length buffer.old) }
+        ensures { bits_of buffer.new ≡ overlaid (bits_of buffer.old) (start (edition_of self)) (steps_part (edition_of self) words.now) }
+    {
+        let mut at = self.start();
+        for &word in words {
+            let width = self.step_width(word).unwrap_or(0);
+            put_word(buffer, at, width, word);
+            at += width;
+        }
+        self.put_end(buffer, at);
+    }
 }
 
 // A tape of the first edition: the first boxes, and the steps into the part behind these two bytes.
-pub(crate) fn lay_tape(buf: &mut [u8], first: u16, words: &[u64])
-    requires { (length (body first_edition words.now) ≤ 40000) × (2 + size first_edition words.now ≤ length buf.old) }
-    ensures { bits_of buf.new ≡ overlaid (bits_of buf.old) 0 (bits 16 first ++ steps_part first_edition words.now) }
+pub(crate) fn lay_tape(buffer: &mut [u8], first: u16, words: &[u64])
+    requires { (length (body first_edition words.now) ≤ 40000) × (2 + size first_edition words.now ≤ length buffer.old) }
+    ensures { bits_of buffer.new ≡ overlaid (bits_of buffer.old) 0 (bits 16 first ++ steps_part first_edition words.now) }
 {
-    put(buf, 0, 16, first as u64);
-    pack_steps(Edition::First, &mut buf[2..], words);
+    put(buffer, 0, 16, u64::from(first));
+    // 01 names this form: the part from the third byte on is lent on to the packer.
+    Edition::First.pack_steps(&mut buffer[2..], words);
 }

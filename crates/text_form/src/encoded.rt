@@ -4,6 +4,7 @@ ghost use Rattle.text_form.specs.Encoding.{ReadAs};
 use tape::Fields;
 
 // The fields at their places, most significant bit first (01, "The tape"). The kind is a number, as `tape::fields_of` gives it.
+// The layout stands here a second time, as the tape gives no encoder; the contract of `encode`, ReadAs, lets no wrong place through.
 fn placed(f: Fields) -> u64 {
     let fields = match f.kind {
         0 => (f.first << 58) | (f.second << 50) | (f.third << 34) | (f.fourth << 18),

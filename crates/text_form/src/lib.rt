@@ -13,8 +13,10 @@ use streams::Failure;
 use text::Text;
 use wrong::BadLine;
 
-// The row has one place more than a tape of 4,096 bytes has steps, so that a longer one is refused by 11 when it is written.
-pub type StepWords = ArrayVec<u64, 5459>;
+// One place more than a tape has steps, so that a longer one is refused by 11 when it is written.
+const STEP_PLACES: usize = tape::MOST_STEPS + 1;
+
+pub type StepWords = ArrayVec<u64, STEP_PLACES>;
 
 // A bad line, said.
 fn refused(rt: &impl Eprint, bad: BadLine) -> Failure {
@@ -22,11 +24,11 @@ fn refused(rt: &impl Eprint, bad: BadLine) -> Failure {
     Failure::Refused
 }
 
-// The first boxes of the text on standard input, 0 where it has none; the words of its steps go into the row, behind those that are there.
+// The first boxes of the text on standard input, 0 where it has none, which 12 then refuses; the words of its steps go into the row, behind those that are there.
 pub fn read_text(rt: &(impl Input + Eprint), steps: &mut StepWords) -> Result<u16, Failure> {
     let mut text = Text::new(steps);
     let mut buffer = [0u8; 4096];
-    // No input is that long.
+    // No input is that long. A `for`, as a loop must be seen to end.
     for _ in 0..u64::MAX {
         let length = streams::read_some(rt, &mut buffer)?;
         if length == 0 {

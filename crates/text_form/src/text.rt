@@ -101,7 +101,7 @@ impl<'a> Text<'a> {
         Ok(())
     }
 
-    // The last line ends with the text. Its first boxes, 0 where it has none.
+    // The last line ends with the text. Its first boxes, 0 where it has none, which 12 then refuses.
     pub(crate) fn end(mut self) -> Result<u16, BadLine> {
         self.end_line()?;
         Ok(self.first.unwrap_or(0))

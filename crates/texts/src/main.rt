@@ -9,7 +9,7 @@ use text_form::StepWords;
 
 // The tape of first boxes and step words, written whole or not at all.
 fn write_tape(rt: &(impl Print + Eprint), first: u16, words: &[u64]) -> Result<(), Failure> {
-    let mut tape = [0u8; 4096];
+    let mut tape = [0u8; tape::MOST_BYTES];
     match tape::write_tape(first, words, &mut tape) {
         Ok(length) => streams::write_all(rt, &tape[..length]),
         Err(refusal) => {

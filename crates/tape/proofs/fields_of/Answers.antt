@@ -44,7 +44,7 @@ none-are x k e f =
 
 pub returns-in_default : goal.returns-in_default
 unfolding make
-returns-in_default c = none-are c.args.word c.field-kind.result c.field-kind.ensures (sym c.in_default.is ∙ c.of.ensures)
+returns-in_default c = none-are c.args.word c.field-kind.result c.field-kind.ensures (sym c.in_default.is ∙ c.layout.ensures)
 
 pub returns : goal.returns
 unfolding make
@@ -52,4 +52,4 @@ returns c =
     let k = c.field-kind in
     let x = c.args.word in
     fields-are x k.result c.in-Some.layout c.field.result c.field-2.result c.field-3.result c.field-4.result
-    k.ensures (laid-out E.First k.result c.in-Some.layout (sym c.in-Some.is ∙ c.of.ensures)).is c.field.ensures c.field-2.ensures c.field-3.ensures c.field-4.ensures
+    k.ensures (laid-out E.First k.result c.in-Some.layout (sym c.in-Some.is ∙ c.layout.ensures)).is c.field.ensures c.field-2.ensures c.field-3.ensures c.field-4.ensures

@@ -27,7 +27,7 @@ length_of bytes = length bytes ∷ []
 turned : (first : ℕ) (xs s : List ℕ) (e : Refusal) → write_tape first xs ≡ Err e → WritePromise first xs s (Err e) s
 turned first xs s e h =
     let p = refusal-kept s length_of (write_tape first xs) e h in
-    record { told = p.told; buf_is = p.held }
+    record { told = p.told; buffer_is = p.held }
 
 -- the tape of the first edition, whose head is its first boxes
 abbrev bytes : ℕ → List ℕ → ℕ
@@ -39,7 +39,7 @@ long first xs = length-tape first_edition (bits 16 first) xs
 short : (first : ℕ) (xs s : List ℕ) → write_tape first xs ≡ Ok (tape_of first xs) → length s < 2 + size first_edition xs → WritePromise first xs s (Err RowTooShort) s
 short first xs s e h =
     let p = short-kept s length_of (write_tape first xs) (tape_of first xs) e (omega (arith, long first xs)) in
-    record { told = p.told; buf_is = p.held }
+    record { told = p.told; buffer_is = p.held }
 
 full : (first : ℕ) (xs s e : List ℕ) (n : ℕ) → write_tape first xs ≡ Ok (tape_of first xs) → n ≡ 2 + size first_edition xs → 2 + size first_edition xs ≤ length s → Bytes s → Bytes e → length e ≡ length s
     → bits_of e ≡ overlaid (bits_of s) 0 (bits 16 first ++ steps_part first_edition xs) → WritePromise first xs s (Ok n) e
@@ -49,7 +49,7 @@ full first xs s e n w m h p q k f =
     let g = success-kept s length_of (write_tape first xs) (tape_of first xs) w (omega (arith, l)) in
     record {
       told = ap (λ z. answer 0 (z ∷ [])) (m ∙ sym l) ∙ g.told;
-      buf_is = unlaid s e (2 + size first_edition xs) (bits 16 first ++ steps_part first_edition xs) k p q (tape-bits first_edition (bits 16 first) xs (length-bits 16 first)) h f ∙ ap (λ z. tape_of first xs ++ drop z s) (sym l) ∙ g.held;
+      buffer_is = unlaid s e (2 + size first_edition xs) (bits 16 first ++ steps_part first_edition xs) k p q (tape-bits first_edition (bits 16 first) xs (length-bits 16 first)) h f ∙ ap (λ z. tape_of first xs ++ drop z s) (sym l) ∙ g.held;
     }
 
 -- what is known of n measured bits that take r bytes behind the first two
@@ -76,7 +76,7 @@ planned c =
 pub returns-then-first-eq0 : goal.returns-then-first-eq0
 returns-then-first-eq0 c =
     let a = c.args in
-    turned a.first a.words.now a.buf.now NoFirstBox (write-boxless a.first a.words.now c.if-first-eq0.true)
+    turned a.first a.words.now a.buffer.now NoFirstBox (write-boxless a.first a.words.now c.if-first-eq0.true)
 
 pub returns-in_err-count : goal.returns-in_err-count
 returns-in_err-count c =
@@ -84,8 +84,8 @@ returns-in_err-count c =
     let n = c.in_err-count.ensures in
     let e : c.in_err-count.field-0.0 ≡ NoStep = let h = n.value ∙ ap (λ o. ok_or o NoStep) n.ok_part in cc in
     let none = measured-none first_edition a.words.now (sym n.ok_part ∙ c.measure.ensures) in
-    subst (λ r. WritePromise a.first a.words.now a.buf.now r a.buf.now) (sym (handed-on c.from_residual.result c.in_err-count.field-0.0 c.from_residual.ensures.1 ∙ ap Err e))
-    (turned a.first a.words.now a.buf.now NoStep (write-stepless a.first a.words.now c.if-first-eq0.false none))
+    subst (λ r. WritePromise a.first a.words.now a.buffer.now r a.buffer.now) (sym (handed-on c.from_residual.result c.in_err-count.field-0.0 c.from_residual.ensures.1 ∙ ap Err e))
+    (turned a.first a.words.now a.buffer.now NoStep (write-stepless a.first a.words.now c.if-first-eq0.false none))
 
 pub bytes_for-size-requires : goal.bytes_for-size-requires
 bytes_for-size-requires c = omega (arith, (counted (goal.at.bytes_for-size-requires c).In_ok-count).1)
@@ -94,31 +94,31 @@ pub overflow_add-size : goal.overflow_add-size
 unfolding bytes_for
 overflow_add-size c = omega (arith, c.bytes_for-size.ensures, (counted (goal.at.overflow_add-size c).In_ok-count).1)
 
-pub returns-then-size-gt4096 : goal.returns-then-size-gt4096
-returns-then-size-gt4096 c =
+pub returns-then-size-gt-MOST_BYTES : goal.returns-then-size-gt-MOST_BYTES
+returns-then-size-gt-MOST_BYTES c =
     let a = c.args in
-    let p = planned (goal.at.returns-then-size-gt4096 c).After-bytes_for-size in
-    turned a.first a.words.now a.buf.now TapeTooLong (write-long a.first a.words.now c.if-first-eq0.false p.all (p.over c.if-size-gt4096.true))
+    let p = planned (goal.at.returns-then-size-gt-MOST_BYTES c).After-bytes_for-size in
+    turned a.first a.words.now a.buffer.now TapeTooLong (write-long a.first a.words.now c.if-first-eq0.false p.all (p.over c.if-size-gt-MOST_BYTES.true))
 
-pub returns-then-buf-size : goal.returns-then-buf-size
-returns-then-buf-size c =
+pub returns-then-buffer-size : goal.returns-then-buffer-size
+returns-then-buffer-size c =
     let a = c.args in
-    let p = planned (goal.at.returns-then-buf-size c).After-bytes_for-size in
-    let z = p.fits c.if-size-gt4096.false in
-    short a.first a.words.now a.buf.now (write-good a.first a.words.now c.if-first-eq0.false p.all (omega (arith, z.1, c.if-size-gt4096.false))) (omega (arith, z.1, c.if-buf-size.true))
+    let p = planned (goal.at.returns-then-buffer-size c).After-bytes_for-size in
+    let z = p.fits c.if-size-gt-MOST_BYTES.false in
+    short a.first a.words.now a.buffer.now (write-good a.first a.words.now c.if-first-eq0.false p.all (omega (arith, z.1, c.if-size-gt-MOST_BYTES.false))) (omega (arith, z.1, c.if-buffer-size.true))
 
 pub lay_tape-requires : goal.lay_tape-requires
 lay_tape-requires c =
     let at = goal.at.lay_tape-requires c in
-    let z = (planned at.After-bytes_for-size).fits c.if-size-gt4096.false in
-    (omega (arith, z.0, (counted at.In_ok-count).1), omega (arith, z.1, c.if-buf-size.false))
+    let z = (planned at.After-bytes_for-size).fits c.if-size-gt-MOST_BYTES.false in
+    (omega (arith, z.0, (counted at.In_ok-count).1), omega (arith, z.1, c.if-buffer-size.false))
 
 pub returns : goal.returns
 returns c =
     let a = c.args in
     let p = planned (goal.at.returns c).After-bytes_for-size in
-    let z = p.fits c.if-size-gt4096.false in
-    full a.first a.words.now a.buf.now c.lay_tape.new.buf (2 + c.bytes_for-size.result)
-    (write-good a.first a.words.now c.if-first-eq0.false p.all (omega (arith, z.1, c.if-size-gt4096.false)))
-    z.1 (omega (arith, z.1, c.if-buf-size.false))
-    (search rules) (λ i. (c.type_inv.buf i).fits) c.lay_tape.auto.buf c.lay_tape.ensures
+    let z = p.fits c.if-size-gt-MOST_BYTES.false in
+    full a.first a.words.now a.buffer.now c.lay_tape.new.buffer (2 + c.bytes_for-size.result)
+    (write-good a.first a.words.now c.if-first-eq0.false p.all (omega (arith, z.1, c.if-size-gt-MOST_BYTES.false)))
+    z.1 (omega (arith, z.1, c.if-buffer-size.false))
+    (search rules) (λ i. (c.type_inv.buffer i).fits) c.lay_tape.auto.buffer c.lay_tape.ensures

@@ -31,19 +31,19 @@ put_is : (s after : List ℕ) (p w v x : ℕ) → 1 ≤ w → w ≤ 16 → p + w
     → bits_of after ≡ overlaid (bits_of s) p (bits w v)
 put_is s after p w v x l h k e f = ap bits_of f ∙ stored-overlaid s p (bits w v) x (rw length-bits (omega arith)) (rw length-bits l) (rw length-bits k) e
 
-pub blend-requires : goal.blend-requires
-blend-requires c =
-    (omega arith, c.requires.2, subst (λ (x : ℕ). x < 2 ^ 24) (sym c.bytes_at-old.ensures) (num-window-lt 3 c.args.buf.now (c.args.at / 8)))
+pub blend-number-requires : goal.blend-number-requires
+blend-number-requires c =
+    (omega arith, c.requires.2, subst (λ (x : ℕ). x < 2 ^ 24) (sym c.bytes_at-old.ensures) (num-window-lt 3 c.args.buffer.now (c.args.at / 8)))
 
 pub store-requires : goal.store-requires
 store-requires c = (
   omega (arith, c.requires.0, c.requires.3),
-  subst (λ (x : ℕ). x < 2 ^ 24) (sym (filled c.args.buf.now c.args.at c.args.width c.args.value c.bytes_at-old.result c.blend.result c.requires.1 c.requires.2 c.bytes_at-old.ensures c.blend.ensures))
-      (num-24 c.args.buf.now c.args.at c.args.width c.args.value c.requires.1),
+  subst (λ (x : ℕ). x < 2 ^ 24) (sym (filled c.args.buffer.now c.args.at c.args.width c.args.value c.bytes_at-old.result c.blend-number.result c.requires.1 c.requires.2 c.bytes_at-old.ensures c.blend-number.ensures))
+      (num-24 c.args.buffer.now c.args.at c.args.width c.args.value c.requires.1),
 )
 
 pub returns : goal.returns
 returns c =
     let a = c.args in
-    put_is a.buf.now c.store.new.buf a.at a.width a.value c.blend.result c.requires.0 c.requires.1 c.requires.3
-    (filled a.buf.now a.at a.width a.value c.bytes_at-old.result c.blend.result c.requires.1 c.requires.2 c.bytes_at-old.ensures c.blend.ensures) c.store.ensures
+    put_is a.buffer.now c.store.new.buffer a.at a.width a.value c.blend-number.result c.requires.0 c.requires.1 c.requires.3
+    (filled a.buffer.now a.at a.width a.value c.bytes_at-old.result c.blend-number.result c.requires.1 c.requires.2 c.bytes_at-old.ensures c.blend-number.ensures) c.store.ensures

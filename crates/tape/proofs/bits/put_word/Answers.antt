@@ -23,7 +23,7 @@ further s p w x b i k c hw h hp e f =
     ∙ ap (overlaid (bits_of s) p) (sym (take-add i k (bits 64 x)))
 
 pub loop-from-init : goal.loop-from-init
-loop-from-init c = (search rules, refl, sym (overlaid-nil (bits_of c.args.buf.now) c.args.at))
+loop-from-init c = (search rules, refl, sym (overlaid-nil (bits_of c.args.buffer.now) c.args.at))
 
 pub put-requires : goal.put-requires
 put-requires c =
@@ -31,18 +31,18 @@ put-requires c =
     (omega arith, omega arith, rw c.field.ensures (field_lt c.args.word c.loop-from.from k.result (omega arith)), omega arith, omega arith)
 
 -- what one field more makes
-laid : (c : After-put) → bits_of c.put.new.buf ≡ overlaid (bits_of c.args.buf.now) c.args.at (take (c.loop-from.from + c.min-count.result) (bits 64 c.args.word))
+laid : (c : After-put) → bits_of c.put.new.buffer ≡ overlaid (bits_of c.args.buffer.now) c.args.at (take (c.loop-from.from + c.min-count.result) (bits 64 c.args.word))
 laid c =
     let a = c.args in
     let k = c.min-count in
-    c.put.ensures ∙ further a.buf.now a.at a.width a.word c.loop-from.buf c.loop-from.from k.result c.field.result c.requires.0 (omega arith) c.requires.1 c.loop-from.invariant.2 (c.field.ensures ∙ field-inside a.word c.loop-from.from k.result (omega arith))
+    c.put.ensures ∙ further a.buffer.now a.at a.width a.word c.loop-from.buffer c.loop-from.from k.result c.field.result c.requires.0 (omega arith) c.requires.1 c.loop-from.invariant.2 (c.field.ensures ∙ field-inside a.word c.loop-from.from k.result (omega arith))
 
 pub loop-from-preserved : goal.loop-from-preserved
 loop-from-preserved c =
     let k : c.min-count.result ≡ 16 = omega arith in
-    (omega arith, c.put.auto.buf ∙ c.loop-from.invariant.1, laid (goal.at.loop-from-preserved c).After-put ∙ ap (λ n. overlaid (bits_of c.args.buf.now) c.args.at (take (c.loop-from.from + n) (bits 64 c.args.word))) k)
+    (omega arith, c.put.auto.buffer ∙ c.loop-from.invariant.1, laid (goal.at.loop-from-preserved c).After-put ∙ ap (λ n. overlaid (bits_of c.args.buffer.now) c.args.at (take (c.loop-from.from + n) (bits 64 c.args.word))) k)
 
 pub returns-2 : goal.returns-2
 returns-2 c =
     let e : c.loop-from.from + c.min-count.result ≡ c.args.width = omega arith in
-    laid (goal.at.returns-2 c).After-put ∙ ap (λ n. overlaid (bits_of c.args.buf.now) c.args.at (take n (bits 64 c.args.word))) e
+    laid (goal.at.returns-2 c).After-put ∙ ap (λ n. overlaid (bits_of c.args.buffer.now) c.args.at (take n (bits 64 c.args.word))) e

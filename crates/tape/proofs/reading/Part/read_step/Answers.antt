@@ -57,7 +57,7 @@ cut c = c.field-kind.ensures ∙ field_top c.ahead-window.result 3 (omega arith)
 
 -- the layout of that kind
 found : (c : In-Some) → LaidOut c.args.self.edition c.field-kind.result c.in-Some.layout
-found c = laid-out c.args.self.edition c.field-kind.result c.in-Some.layout (sym c.in-Some.is ∙ c.of.ensures)
+found c = laid-out c.args.self.edition c.field-kind.result c.in-Some.layout (sym c.in-Some.is ∙ c.layout.ensures)
 
 least : (c : In-Some) → 6 ≤ c.in-Some.layout.width
 least c = let f = found c in omega (arith, f.wide, width-least (edition_of c.args.self.edition) c.field-kind.result f.some)
@@ -114,7 +114,7 @@ returns-in_default c =
     let a = c.args in
     let ed = edition_of a.self.edition in
     let t = bits_of a.self.bytes.now in
-    let none = ap step_width (not-laid (fields ed c.field-kind.result) (sym c.in_default.is ∙ c.of.ensures)) in
+    let none = ap step_width (not-laid (fields ed c.field-kind.result) (sym c.in_default.is ∙ c.layout.ensures)) in
     c.end_or.ensures
     ∙ no_step at.After-ahead-window NoStep (λ b. read-kind ed t a.at c.field-kind.result b (simp length-bits_of (search rules)) (kind at.After-field-kind) ∙ kind-none ed t a.at c.field-kind.result none)
 

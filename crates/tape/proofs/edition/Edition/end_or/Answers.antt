@@ -1,4 +1,4 @@
--- `reading::end_or` meets its contract: the code compares the kind and the bits behind it, which together are the end mark.
+-- `Edition::end_or` meets its contract: the code compares the kind and the bits behind it, which together are the end mark.
 use native.Mathlib.Omega.{arith}
 use mathlib.Core.Path.{◌≡◌, sym, ap, ◌∙◌}
 use Prim.Native.Nat.{◌-◌}
@@ -9,13 +9,13 @@ use Rattle.tape.specs.Edition.{edition_of}
 use Rattle.tape.specs.Reading.{begins, end_at}
 use Rattle.tape.specs.declared.edition.Mark.{Mark}
 use Rattle.tape.proofs.MarkLaws.{mark-short, mark-other, mark-rest, mark-is}
-use Rattle.tape.proofs.reading.end_or.Goals.{then-kind-mark-via-then-kind-mark, then-kind-mark-via-else-kind-mark+then-left-mark, then-kind-mark-via-else-kind-mark+else-left-mark+then-field-mark}
-use Rattle.tape.proofs.reading.end_or.Goals as goal
+use Rattle.tape.proofs.edition.Edition.end_or.Goals.{then-kind-mark-via-then-kind-mark, then-kind-mark-via-else-kind-mark+then-left-mark, then-kind-mark-via-else-kind-mark+else-left-mark+then-field-mark}
+use Rattle.tape.proofs.edition.Edition.end_or.Goals as goal
 
 pub returns-then-kind-mark : goal.returns-then-kind-mark
 returns-then-kind-mark c =
     let a = c.args in
-    let ed = edition_of a.edition in
+    let ed = edition_of a.self in
     let m = c.mark-mark.ensures in
     let kind = ap (λ (m : Mark). m.kind) m in
     let rest = ap (λ (m : Mark). m.rest) m in
@@ -32,7 +32,7 @@ returns-then-kind-mark c =
 pub returns : goal.returns
 returns c =
     let a = c.args in
-    let ed = edition_of a.edition in
+    let ed = edition_of a.self in
     let m = c.mark-mark.ensures in
     let kind = ap (λ (m : Mark). m.kind) m in
     let rest = ap (λ (m : Mark). m.rest) m in

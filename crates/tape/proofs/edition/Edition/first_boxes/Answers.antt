@@ -1,4 +1,4 @@
--- `reading::first_boxes` meets its contract: the field that is cut from the eight bytes is the set of first boxes.
+-- `Edition::first_boxes` meets its contract: the field that is cut from the eight bytes is the set of first boxes.
 use native.Mathlib.Omega.{arith}
 use mathlib.Core.Path.{◌≡◌, ap, ◌∙◌}
 use Prim.Native.Nat.{ℕ, ◌*◌, ◌/◌, ◌%◌, ◌≤◌}
@@ -11,7 +11,7 @@ use Rattle.tape.specs.declared.edition.Head.{Head}
 use Rattle.tape.proofs.BitLaws.{bits-part}
 use Rattle.tape.proofs.ByteLaws.{length-window, window-field}
 use Rattle.tape.proofs.WordLaws.{field-inside, field_lt}
-use Rattle.tape.proofs.reading.first_boxes.Goals as goal
+use Rattle.tape.proofs.edition.Edition.first_boxes.Goals as goal
 
 -- the 16 bits where the set begins
 boxes : (ed : Edition) (s : List ℕ) (h : Head) (x n : ℕ) → ed.head ≤ 8 * length s → h ≡ head_in ed → x ≡ num (window 8 s (h.boxes / 8)) → n ≡ field_at x (h.boxes % 8) 16 → n ≡ boxes_in ed s
@@ -31,4 +31,4 @@ overflow_cast-result c =
 pub returns : goal.returns
 returns c =
     let h = c.head-from in
-    boxes (edition_of c.args.edition) c.args.tape.now h.result c.eight_at.result c.field.result c.requires h.ensures c.eight_at.ensures c.field.ensures
+    boxes (edition_of c.args.self) c.args.tape.now h.result c.eight_at.result c.field.result c.requires h.ensures c.eight_at.ensures c.field.ensures

@@ -1,4 +1,4 @@
--- `writing::put_end` meets its contract: the end mark and the zeros behind it are one field of so many bits.
+-- `Edition::put_end` meets its contract: the end mark and the zeros behind it are one field of so many bits.
 use native.Mathlib.Omega.{arith}
 use mathlib.Core.Path.{◌≡◌, sym, ap, subst, ◌∙◌}
 use Prim.Native.Nat.{ℕ, ◌+◌, ◌-◌, ◌*◌, ◌%◌, ◌^◌, ◌<◌}
@@ -8,8 +8,8 @@ use Rattle.tape.specs.Edition.{Edition, edition_of, mark_in}
 use Rattle.tape.specs.Writing.{pad, ending}
 use Rattle.tape.specs.declared.edition.Mark.{Mark}
 use Rattle.tape.proofs.WritingLaws.{length-ending, end-field, end-shifted}
-use Rattle.tape.proofs.writing.put_end.Goals.{After-mark-mark}
-use Rattle.tape.proofs.writing.put_end.Goals as goal
+use Rattle.tape.proofs.edition.Edition.put_end.Goals.{After-mark-mark}
+use Rattle.tape.proofs.edition.Edition.put_end.Goals as goal
 
 -- the end mark as the code puts it, in one field with the zeros behind it
 record Field (ed : Edition) (p : ℕ) (m : Mark) : Type 0 where
@@ -29,20 +29,20 @@ as-field ed p m e =
       long = sym (length-ending ed p);
     }
 
-at-end : (c : After-mark-mark) → Field (edition_of c.args.edition) c.args.at c.mark-mark.result
-at-end c = as-field (edition_of c.args.edition) c.args.at c.mark-mark.result c.mark-mark.ensures
+at-end : (c : After-mark-mark) → Field (edition_of c.args.self) c.args.at c.mark-mark.result
+at-end c = as-field (edition_of c.args.self) c.args.at c.mark-mark.result c.mark-mark.ensures
 
-least : (c : After-mark-mark) → c.mark-mark.result.width ≡ length (edition_of c.args.edition).mark
+least : (c : After-mark-mark) → c.mark-mark.result.width ≡ length (edition_of c.args.self).mark
 least c = ap (λ (m : Mark). m.width) c.mark-mark.ensures
 
 pub put-requires : goal.put-requires
 put-requires c =
     let at = goal.at.put-requires c in
-    let ed = edition_of c.args.edition in
+    let ed = edition_of c.args.self in
     let f = at-end at.After-mark-mark in
     (omega (arith, least at.After-mark-mark, ed.mark_least), omega (arith, least at.After-mark-mark, ed.mark_most), f.small, omega (arith, f.long, c.requires.1), omega (arith, c.requires.0))
 
 pub returns : goal.returns
 returns c =
     let a = c.args in
-    c.put.ensures ∙ ap (overlaid (bits_of a.buf.now) a.at) (at-end (goal.at.returns c).After-mark-mark).is
+    c.put.ensures ∙ ap (overlaid (bits_of a.buffer.now) a.at) (at-end (goal.at.returns c).After-mark-mark).is

@@ -5,7 +5,7 @@ use mathlib.Core.Bool.{true}
 use lib.ListN.{length, take}
 use Rattle.tape.specs.Edition.{edition_of}
 use Rattle.tape.specs.Writing.{all_steps, body}
-use Rattle.tape.proofs.writing.measure.Given as goal
+use Rattle.tape.proofs.edition.Edition.measure.Given as goal
 
 abbrev pub invariant-loop-word : goal.invariant-loop-word
-invariant-loop-word l = (all_steps (edition_of l.edition) (take l.word-index l.words) ≡ true) × (l.total ≡ min (length (body (edition_of l.edition) (take l.word-index l.words))) 40000)
+invariant-loop-word l = (all_steps (edition_of l.self) (take l.word-index l.words) ≡ true) × (l.total ≡ min (length (body (edition_of l.self) (take l.word-index l.words))) 40000)

@@ -7,7 +7,7 @@ use Rattle.tape.specs.Bits.{bits_of, overlaid}
 use Rattle.tape.specs.Edition.{Edition, edition_of}
 use Rattle.tape.specs.Reading.{start}
 use Rattle.tape.specs.Writing.{body}
-use Rattle.tape.proofs.writing.pack_steps.Given as goal
+use Rattle.tape.proofs.edition.Edition.pack_steps.Given as goal
 
 -- the first i steps of xs lie in b, laid over s, and the next bit is p
 pub record Packed (ed : Edition) (xs s b : List ℕ) (p i : ℕ) : Type 0 where
@@ -17,4 +17,4 @@ pub record Packed (ed : Edition) (xs s b : List ℕ) (p i : ℕ) : Type 0 where
   pub laid : bits_of b ≡ overlaid (bits_of s) (start ed) (body ed (take i xs))
 
 abbrev pub invariant-loop-word : goal.invariant-loop-word
-invariant-loop-word l = Packed (edition_of l.edition) l.words l.initial.buf l.buf l.at l.word-index
+invariant-loop-word l = Packed (edition_of l.self) l.words l.initial.buffer l.buffer l.at l.word-index

@@ -1,4 +1,4 @@
--- `writing::pack_steps` meets its contract: each step is laid behind those before it, and the end mark behind the last.
+-- `Edition::pack_steps` meets its contract: each step is laid behind those before it, and the end mark behind the last.
 use borrow.Author.Rules.{rules}
 use native.Mathlib.Omega.{arith}
 use mathlib.Core.Path.{◌≡◌, refl, sym, ap, ap₂, ◌∙◌}
@@ -16,9 +16,9 @@ use Rattle.tape.proofs.ByteLaws.{length-bits_of}
 use Rattle.tape.proofs.LayLaws.{overlaid-nil, overlaid-overlaid}
 use Rattle.tape.proofs.StepLaws.{wide-most, width-or-none}
 use Rattle.tape.proofs.WritingLaws.{body-next, length-next, length_part, length-ending, length-steps_part}
-use Rattle.tape.proofs.writing.pack_steps.Invariants.{Packed}
-use Rattle.tape.proofs.writing.pack_steps.Goals.{After-unwrap_or-width}
-use Rattle.tape.proofs.writing.pack_steps.Goals as goal
+use Rattle.tape.proofs.edition.Edition.pack_steps.Invariants.{Packed}
+use Rattle.tape.proofs.edition.Edition.pack_steps.Goals.{After-unwrap_or-width}
+use Rattle.tape.proofs.edition.Edition.pack_steps.Goals as goal
 
 module _ (ed : Edition) (xs s b : List ℕ) (p i : ℕ) (few : length (body ed xs) ≤ 40000) (room : start ed + length (steps_part ed xs) ≤ 8 * length s) (k : Packed ed xs s b p i) where
   -- the steps begin within the buffer
@@ -63,28 +63,28 @@ module _ (ed : Edition) (xs s b : List ℕ) (p i : ℕ) (few : length (body ed x
         ∙ overlaid-overlaid (bits_of s) (start ed) (body ed xs) (ending ed (start ed + length (body ed xs))) begun
 
 -- how many bits the next step takes
-width : (c : After-unwrap_or-width) → c.unwrap_or-width.result ≡ wide (edition_of c.args.edition) (get_or c.args.words.now c.loop-word.word-index 0)
+width : (c : After-unwrap_or-width) → c.unwrap_or-width.result ≡ wide (edition_of c.args.self) (get_or c.args.words.now c.loop-word.word-index 0)
 width c =
-    let ed = edition_of c.args.edition in
+    let ed = edition_of c.args.self in
     let x = get_or c.args.words.now c.loop-word.word-index 0 in
     c.unwrap_or-width.ensures ∙ ap (λ w. unwrap_or w 0) c.step_width.ensures ∙ width-or-none ed x
 
 -- the step before which the loop stands
-one : (c : After-unwrap_or-width) → (c.unwrap_or-width.result ≤ 64) × (c.loop-word.at + c.unwrap_or-width.result ≤ 8 * length c.loop-word.buf) × (c.loop-word.at + c.unwrap_or-width.result ≤ 40064)
+one : (c : After-unwrap_or-width) → (c.unwrap_or-width.result ≤ 64) × (c.loop-word.at + c.unwrap_or-width.result ≤ 8 * length c.loop-word.buffer) × (c.loop-word.at + c.unwrap_or-width.result ≤ 40064)
 one c =
     let l = c.loop-word in
     let a = c.args in
-    fits (edition_of a.edition) a.words.now a.buf.now l.buf l.at l.word-index c.requires.0 c.requires.1 l.invariant (search rules) c.unwrap_or-width.result (width c)
+    fits (edition_of a.self) a.words.now a.buffer.now l.buffer l.at l.word-index c.requires.0 c.requires.1 l.invariant (search rules) c.unwrap_or-width.result (width c)
 
 pub loop-word-init : goal.loop-word-init
 unfolding body
 loop-word-init c =
-    let ed = edition_of c.args.edition in
+    let ed = edition_of c.args.self in
     record {
       some = search rules;
       next = c.start-at.ensures ∙ sym (add-zero (start ed));
       same = refl;
-      laid = sym (overlaid-nil (bits_of c.args.buf.now) (start ed));
+      laid = sym (overlaid-nil (bits_of c.args.buffer.now) (start ed));
     }
 
 pub put_word-requires : goal.put_word-requires
@@ -98,17 +98,17 @@ loop-word-preserved c =
     let l = c.loop-word in
     let a = c.args in
     let q = c.put_word in
-    further (edition_of a.edition) a.words.now a.buf.now l.buf l.at l.word-index c.requires.0 c.requires.1 l.invariant (search rules) c.unwrap_or-width.result (width (goal.at.loop-word-preserved c).After-unwrap_or-width) q.new.buf q.auto.buf q.ensures
+    further (edition_of a.self) a.words.now a.buffer.now l.buffer l.at l.word-index c.requires.0 c.requires.1 l.invariant (search rules) c.unwrap_or-width.result (width (goal.at.loop-word-preserved c).After-unwrap_or-width) q.new.buffer q.auto.buffer q.ensures
 
 pub put_end-requires : goal.put_end-requires
 put_end-requires c =
     let l = c.loop-word in
     let a = c.args in
-    end_fits (edition_of a.edition) a.words.now a.buf.now l.buf l.at l.word-index c.requires.0 c.requires.1 l.invariant (search rules)
+    end_fits (edition_of a.self) a.words.now a.buffer.now l.buffer l.at l.word-index c.requires.0 c.requires.1 l.invariant (search rules)
 
 pub returns : goal.returns
 returns c =
     let l = c.loop-word in
     let a = c.args in
     c.put_end.ensures
-    ∙ ended (edition_of a.edition) a.words.now a.buf.now l.buf l.at l.word-index c.requires.0 c.requires.1 l.invariant (search rules)
+    ∙ ended (edition_of a.self) a.words.now a.buffer.now l.buffer l.at l.word-index c.requires.0 c.requires.1 l.invariant (search rules)
