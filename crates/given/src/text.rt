@@ -64,7 +64,8 @@ impl<'a> Part<'a> {
     }
 }
 
-// What stands before the byte `stop`, a `;` or the end of the line, and the text from there on.
+// What stands before the byte `stop`, a `;` or the end of the line, and the text from there on. Each function that gives a rest says how
+// long it is at most, each of a text of its own: by that the pieces end.
 fn token(text: &[u8], stop: u8) -> (&[u8], &[u8])
     ensures { length result.1.now ≤ length text.now }
 {

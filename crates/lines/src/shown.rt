@@ -71,7 +71,7 @@ fn show_steps(
 ) -> Result<(), Failure> {
     let mut out = Output::new(rt);
     write_steps(&mut out, form, first, words)?;
-    out.end()
+    Ok(out.end()?)
 }
 
 fn show_tape(rt: &(impl Print + Eprint), form: &impl Form, tape: &[u8]) -> Result<(), Failure> {

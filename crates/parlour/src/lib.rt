@@ -17,7 +17,8 @@ use refusals::Refusal;
 use rules::Named;
 use state::{Run, Slot, Stepped};
 
-// A place below a bound, 0 where there is no such place.
+// A place below a bound, 0 where there is no such place: what stands there is stored again as it came. Each place has a bound of its own,
+// which its contract says, so that no index is tested.
 fn place_within(bound: usize, n: usize) -> usize
     requires { 0 < bound }
     ensures { (result ≡ within bound n) × (result < bound) }

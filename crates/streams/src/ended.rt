@@ -3,6 +3,7 @@ ghost use Rattle.std.specs.Prelude.{◌≡◌};
 ghost use Rattle.streams.specs.declared.ended.Failure.TheVariants.{Failed};
 
 use crate::input::ReadFailed;
+use crate::output::WriteFailed;
 use crate::said::fail;
 use std::env::FillError;
 use std::io::Write;
@@ -26,17 +27,19 @@ impl From<ReadFailed> for Failure {
     }
 }
 
+impl From<WriteFailed> for Failure {
+    ghost from_gives = { λ _ failure. failure ≡ Failed };
+
+    fn from(_: WriteFailed) -> Failure {
+        Failure::Failed
+    }
+}
+
 impl From<fmt::Error> for Failure {
     ghost from_gives = { λ _ failure. failure ≡ Failed };
 
     fn from(_: fmt::Error) -> Failure {
         Failure::Failed
-    }
-}
-
-impl From<Failure> for fmt::Error {
-    fn from(_: Failure) -> fmt::Error {
-        fmt::Error
     }
 }
 

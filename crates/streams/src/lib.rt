@@ -9,6 +9,6 @@ mod words;
 
 pub use ended::{Failure, end_with};
 pub use input::{ReadFailed, read_all, read_some};
-pub use output::{Output, write_all};
+pub use output::{Output, WriteFailed, write_all};
 pub use said::say;
 pub use words::{Word, argument};

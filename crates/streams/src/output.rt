@@ -1,20 +1,26 @@
 // Standard output, in blocks of 4,096 bytes: a full block is written out and begun anew, so nothing is left out and no line is too long.
-ghost use Rattle.std.specs.Prelude.{◌≡◌, IfErr, OnOk};
+ghost use Rattle.std.specs.Prelude.{◌≡◌, OnOk};
 ghost use Rattle.arrayvec.specs.ArrayVec.{array_vec_len};
-ghost use Rattle.streams.specs.declared.ended.Failure.TheVariants.{Failed};
 
-use crate::ended::Failure;
 use crate::said::fail;
 use arrayvec::ArrayVec;
 use std::fmt;
 
+// A write failed. Why was said where it did.
+#[derive(Clone, Copy, Debug, PartialEq, Eq)]
+pub struct WriteFailed;
+
+impl From<WriteFailed> for fmt::Error {
+    fn from(_: WriteFailed) -> fmt::Error {
+        fmt::Error
+    }
+}
+
 // Bytes on standard output, not collected. A failure is said at once, while its reason is known.
-pub fn write_all(rt: &(impl Print + Eprint), bytes: &[u8]) -> Result<(), Failure>
-    ensures { IfErr result (λ failure. failure ≡ Failed) }
-{
+pub fn write_all(rt: &(impl Print + Eprint), bytes: &[u8]) -> Result<(), WriteFailed> {
     rt.write_all(bytes).map_err(|why| {
         fail(rt, "standard output", why);
-        Failure::Failed
+        WriteFailed
     })
 }
 
@@ -33,16 +39,15 @@ impl<'a, R: Print + Eprint> Output<'a, R> {
         }
     }
 
-    fn write_block(&mut self) -> Result<(), Failure>
-        ensures emptied { OnOk result (array_vec_len self.new.block ≡ 0) }
-        ensures failed { IfErr result (λ failure. failure ≡ Failed) }
+    fn write_block(&mut self) -> Result<(), WriteFailed>
+        ensures { OnOk result (array_vec_len self.new.block ≡ 0) }
     {
         write_all(self.rt, self.block.as_slice())?;
         self.block.clear();
         Ok(())
     }
 
-    fn put(&mut self, byte: u8) -> Result<(), Failure> {
+    fn put(&mut self, byte: u8) -> Result<(), WriteFailed> {
         if self.block.is_full() {
             self.write_block()?;
         }
@@ -51,9 +56,7 @@ impl<'a, R: Print + Eprint> Output<'a, R> {
     }
 
     // Writes what is collected.
-    pub fn end(mut self) -> Result<(), Failure>
-        ensures { IfErr result (λ failure. failure ≡ Failed) }
-    {
+    pub fn end(mut self) -> Result<(), WriteFailed> {
         self.write_block()
     }
 }

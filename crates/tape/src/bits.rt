@@ -88,7 +88,8 @@ fn store(buffer: &mut [u8], from: usize, number: u64)
     set_byte(buffer, from + 2, number & 255);
 }
 
-// A field into the bits from a bit on; it and the bits around it lie in three bytes.
+// A field into the bits from a bit on; it and the bits around it lie in three bytes. The buffer and the bit stand apart, as in the
+// definition `overlaid`: the places of a word's pieces are worked out from the word's.
 pub(crate) fn put(buffer: &mut [u8], at: usize, width: usize, value: u64)
     requires { (1 ≤ width) × (width ≤ 16) × (value < 2 ^ width) × (at + width ≤ 8 * length buffer.old) × (at ≤ 65536) }
     ensures { bits_of buffer.new ≡ overlaid (bits_of buffer.old) at (bits width value) }

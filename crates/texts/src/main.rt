@@ -11,7 +11,7 @@ use text_form::StepWords;
 fn write_tape(rt: &(impl Print + Eprint), first: u16, words: &[u64]) -> Result<(), Failure> {
     let mut tape = [0u8; tape::MOST_BYTES];
     match tape::write_tape(first, words, &mut tape) {
-        Ok(length) => streams::write_all(rt, &tape[..length]),
+        Ok(length) => Ok(streams::write_all(rt, &tape[..length])?),
         Err(refusal) => {
             lines::say_refused(rt, refusal);
             Err(Failure::Refused)
