@@ -13,7 +13,7 @@ pub extern "C" fn parlour_majority(added: u16, removed: u16, answered: u16) -> b
     sets::majority(added, removed, answered)
 }
 
-// The number that reading a tape gives with a row long enough; 0 for a tape that is one.
+// The number that reading a tape gives with a row long enough; 0 for a tape that is one. A plain number, as the app calls it from C.
 #[unsafe(no_mangle)]
 pub extern "C" fn parlour_tape_check(tape: &[u8]) -> u8
     ensures { CheckPromise tape.now result }

@@ -33,7 +33,8 @@ impl Listed {
         out
     }
 
-    // A configuration joined with the changes of a set.
+    // A configuration joined with the changes of a set. The two stand apart, as in specs/Queried.antt: they come from a device's contents, from
+    // what a round saved, or are one of many subsets. No shared test of a set's bit (five places): no bound says what `>>` gives.
     pub fn joined_with(self, config: Config, t: u8) -> Config
         ensures { result ≡ joined_with self config t }
     {

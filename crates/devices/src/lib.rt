@@ -120,6 +120,7 @@ pub struct Effect {
 }
 
 // The number that the table of numbers gives an outcome: what a caller is told (01, "Where an answer is an enum, a definition gives this paper's number").
+// app and tape_numbers write the expression out again: it is shorter than a generic function with its contract.
 pub fn number_of(outcome: Outcome) -> u8
     ensures { result ≡ number_of outcome }
 {
@@ -167,7 +168,7 @@ impl Message {
         matches!(self, Message::Empty)
     }
 
-    // Whom a message goes to.
+    // Whom a message goes to; 0 for no message, as the definition says.
     pub fn addressee(self) -> u8
         ensures { result ≡ addressee self }
     {
@@ -194,7 +195,7 @@ impl Message {
     }
 }
 
-// The set of one device.
+// The set of one device. It, `box_of` and `only_change` of rules differ in type and offset, and no bound says what `<<` gives.
 pub fn only_device(device: u8) -> u32
     ensures { result ≡ only device }
 {

@@ -92,6 +92,7 @@ fn name_of(letters: &[u8]) -> &[u8] {
     &last[first.unwrap_or(last.len())..]
 }
 
+// No `to_digit`: it takes A to F too, which count 0 here.
 fn digit(byte: u8) -> u64 {
     match byte {
         b'0'..=b'9' => u64::from(byte - b'0'),

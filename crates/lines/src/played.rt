@@ -56,7 +56,7 @@ fn idle_in(mut run: Run, round: u16) -> Run {
     run
 }
 
-// The name that a played step prints. No Display: the type is of another crate, and the lister names a step in another way.
+// The name that a played step prints. No Display: a newtype and its impl are longer than this match, for one use.
 fn name(step: Step) -> &'static str {
     match step {
         Step::Ask { .. } => "ASK",

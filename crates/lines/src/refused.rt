@@ -2,7 +2,7 @@
 use refusals::Refusal;
 use streams::say;
 
-// The reason alone, where there is one. No Display: the type is of another crate, and only this line says it so.
+// The reason alone, where there is one. No Display: a newtype and its impl are longer than this match, for one use.
 fn reason(refusal: Refusal) -> &'static str {
     match refusal {
         Refusal::TapeTooLong => ": it is over 4,096 bytes",

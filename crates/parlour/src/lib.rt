@@ -46,7 +46,7 @@ fn device_of(step: Step, message: Message) -> usize
     }
 }
 
-// How many slots are free, or 0 where their number does not matter to the step.
+// How many slots are free, or 0 where their number does not matter to the step: no rule of such a step looks at it.
 fn counted(step: Step, slots: &[Slot]) -> usize
     ensures { result ≡ pick (row step).counts (many is_free slots.now) 0 }
 {
@@ -70,7 +70,7 @@ fn freed(slot: Slot, frees: bool) -> Slot
     }
 }
 
-// The stopped devices after a step.
+// The stopped devices after a step. Not by `only_device`, which would test again that the place is below 24.
 fn stopped_after(stopped: u32, stops: bool, device: usize) -> u32
     requires { device < 24 }
     ensures { result ≡ pick stops (union stopped (2 ^ device)) stopped }

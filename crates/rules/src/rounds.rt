@@ -8,7 +8,8 @@ use devices::{Accepted, Asking, Contents, Effect, Here, Letter, Message, Phase, 
 use refusals::Refusal;
 
 // A round begins with these contents, floor and listed changes. The tablet's number comes beside `Here`: that is what the rule of every step
-// sees, and only Ask and Advance have a tablet's number, so specs/Rules.antt takes the two apart too.
+// sees, and only Ask and Advance have a tablet's number, so specs/Rules.antt takes the two apart too;
+// likewise an Ask's notes and pair, and the message of a slot.
 #[tactic(auto, unfolding(crate::specs::Rules::begun))]
 pub(crate) fn begin(
     tablet: u8,

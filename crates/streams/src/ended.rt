@@ -19,6 +19,8 @@ pub enum Failure {
     Failed,
 }
 
+// One impl for each type that `?` meets: one for all types would overlap with `From<Failure>`.
+
 impl From<ReadFailed> for Failure {
     ghost from_gives = { λ _ failure. failure ≡ Failed };
 

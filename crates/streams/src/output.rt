@@ -62,6 +62,7 @@ impl<'a, R: Print + Eprint> Output<'a, R> {
 }
 
 impl<R: Print + Eprint> fmt::Write for Output<'_, R> {
+    // Byte by byte: a block may fill within a text.
     fn write_str(&mut self, text: &str) -> fmt::Result {
         for byte in text.bytes() {
             self.put(byte)?;

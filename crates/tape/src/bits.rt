@@ -27,7 +27,7 @@ fn byte_at(bytes: &[u8], place: usize) -> u64
     bytes.get(place).map_or(0, |&byte| u64::from(byte))
 }
 
-// So many bytes from a place on as one number, zeros behind the end.
+// So many bytes from a place on as one number, zeros behind the end, which no iterator over the bytes gives.
 fn bytes_at(bytes: &[u8], from: usize, count: usize) -> u64
     requires { (count ≤ 8) × (from ≤ 8192) }
     ensures { result ≡ num (window count bytes.now from) }
@@ -99,7 +99,7 @@ pub(crate) fn put(buffer: &mut [u8], at: usize, width: usize, value: u64)
     store(buffer, at / 8, number);
 }
 
-// The first bits of a word, so many, into the bits from a bit on, sixteen at a time.
+// The first bits of a word, so many, into the bits from a bit on, sixteen at a time. Buffer and bit stand apart, as in `put`.
 pub(crate) fn put_word(buffer: &mut [u8], at: usize, width: usize, word: u64)
     requires { (width ≤ 64) × (at + width ≤ 8 * length buffer.old) × (at ≤ 65000) }
     ensures { bits_of buffer.new ≡ overlaid (bits_of buffer.old) at (take width (bits 64 word)) }

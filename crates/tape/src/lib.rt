@@ -33,7 +33,7 @@ pub struct Recorded {
 
 // The kind of a step word and the numbers in its fields, in the order of the tape; 0 for a field that the kind has not.
 // The kind is a number, as in `fields_in` and in the match that 01 names: a word that is no step has one too.
-#[derive(Clone, Copy, Debug, PartialEq, Eq)]
+#[derive(Clone, Copy, Default, Debug, PartialEq, Eq)]
 pub struct Fields {
     pub kind: u64,
     pub first: u64,
@@ -67,7 +67,7 @@ pub fn read_tape(tape: &[u8], row: &mut [u64]) -> Result<Recorded, Refusal>
     Ok(recorded)
 }
 
-// First boxes and step words as a tape in a lent buffer; how many bytes of it the tape takes.
+// First boxes and step words, two parameters as in the definition `write_tape`, as a tape in a lent buffer; how many bytes of it the tape takes.
 pub fn write_tape(first: u16, words: &[u64], buffer: &mut [u8]) -> Result<usize, Refusal>
     ensures { WritePromise first words.now buffer.old result buffer.new }
 {
@@ -99,6 +99,7 @@ pub fn fields_of(word: u64) -> Fields
 {
     let kind = bits::field(word, 0, 3);
     let Some(layout) = Edition::First.layout(kind) else {
+        // Each field by name, as `fields_in` gives it.
         return Fields {
             kind,
             first: 0,

@@ -29,7 +29,7 @@ impl Edition {
         (self.start() + count + self.mark().width + 7) / 8
     }
 
-    // The end mark at a bit, and zero bits to the byte's edge.
+    // The end mark at a bit, and zero bits to the byte's edge. Buffer and bit stand apart, as in `put`.
     fn put_end(self, buffer: &mut [u8], at: usize)
         requires { (at ≤ 65000) × (at + length (ending (edition_of self) at) ≤ 8 * length buffer.old) }
         ensures { bits_of buffer.new ≡ overlaid (bits_of buffer.old) at (ending (edition_of self) at) }

@@ -5,7 +5,7 @@ use crate::wrong::Wrong;
 use streams::Word;
 use tape::Fields;
 
-// What a line says.
+// What a line says. `Nothing` is a case: with an Option, `Line::of` would give a Result of an Option, and `take_line` match both.
 #[derive(Clone, Copy)]
 pub(crate) enum Line {
     Nothing,
@@ -14,7 +14,7 @@ pub(crate) enum Line {
     Steps { word: u64, times: u64 },
 }
 
-// A step that names a tablet, a slot or a device.
+// A step that names a tablet, a slot or a device. The kind is a number, as `tape::Fields` has it.
 fn one(kind: u64, field: Field, words: &[Word]) -> Result<Fields, Wrong> {
     let mut numbers = Numbers::new(words);
     let first = numbers.next(field)?;
@@ -22,9 +22,7 @@ fn one(kind: u64, field: Field, words: &[Word]) -> Result<Fields, Wrong> {
     Ok(Fields {
         kind,
         first,
-        second: 0,
-        third: 0,
-        fourth: 0,
+        ..Fields::default()
     })
 }
 
