@@ -51,7 +51,8 @@ played_by None r = record { outcome = Err NoStep; run = r }
 unfoldable pub played : ℕ → Run → Stepped
 played word r = played_by (step_of word) r
 
--- what playing a word promises: the whole result, and so the answer that the caller is told
+-- what playing a word promises: the whole result, and so the answer that the caller is told, which of a word that is none has its number
 pub record PlayPromise (word : ℕ) (r : Run) (s : Stepped) : Type 0 where
   pub settled : s ≡ played word r
   pub told : answer_of s.outcome ≡ answer_of (played word r).outcome
+  pub refused : step_of word ≡ None → (answer_of s.outcome).number ≡ decoded_number (step_of word)
