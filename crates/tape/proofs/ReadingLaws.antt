@@ -1,7 +1,7 @@
--- The cases of the definitions of reading, one law for each; and that readings go on.
+-- The cases of the definitions of reading, one law for each; that readings go on; and how many bits the steps take (`steps-take`).
 use mathlib.Core.Path.{◌≡◌, refl, sym, ap, ◌∙◌}
 use mathlib.Core.Logic.{◌≢◌}
-use Prim.Native.Nat.{ℕ, suc, ◌+◌, ◌-◌, ◌≤◌, ◌<◌}
+use Prim.Native.Nat.{ℕ, zero, suc, ◌+◌, ◌-◌, ◌*◌, ◌≤◌, ◌<◌}
 use mathlib.Core.List.{List, [], ◌∷◌}
 use mathlib.Core.Bool.{Bool, true, false, cond}
 use native.Mathlib.Nat.{add-zero}
@@ -155,3 +155,29 @@ pub none_left : (r : Reading) (rest : ℕ → Outcome) (l : List ℕ) → ((x q 
 none_left (Step x q) rest l h e = absurd (h x q refl)
 none_left (Refused k) rest l h e = cc
 none_left End rest l h e = cc
+
+-- a step takes six bits or more, and the end mark three
+abbrev Takes : List Bool → ℕ → Reading → Type 0
+Takes t p (Step x q) = p + 6 ≤ q
+Takes t p (Refused k) = Unit {0}
+Takes t p End = p + 3 ≤ length t
+
+takes : (ed : Edition) (t : List Bool) (p : ℕ) → Takes t p (read_at ed t p)
+takes ed t p =
+    read_has ed t p (Takes t p) (λ _. tt)
+    (λ m _ _. omega (arith, (begins-is ed.mark (drop p t) m).0, length-drop p t, ed.mark_least))
+    (λ k _ _ n _ _. omega (arith, width-least ed k n))
+
+-- so the steps that are read, with the end mark behind them, lie in the tape
+pub steps-take : (ed : Edition) (f : ℕ) (t : List Bool) (p : ℕ) (xs : List ℕ) → read_from ed f t p ≡ Ok xs → p + 6 * length xs + 3 ≤ length t
+unfolding read_from
+steps-take ed zero t p xs e = cc
+steps-take ed (suc f) t p xs e = go (read_at ed t p) (takes ed t p) e (λ q ys g. steps-take ed f t q ys g)
+  where
+    go : (r : Reading) → Takes t p r → onward r (read_from ed f t) ≡ Ok xs
+        → ((q : ℕ) (ys : List ℕ) → read_from ed f t q ≡ Ok ys → q + 6 * length ys + 3 ≤ length t) → p + 6 * length xs + 3 ≤ length t
+    go (Step y q) m e ih =
+        let w = more-is y (read_from ed f t q) xs e in
+        omega (arith, m, ih q w.0 w.1, ap length w.2)
+    go (Refused k) m e ih = cc
+    go End m e ih = let q : [] ≡ xs = cc in omega (arith, m, ap length q)

@@ -6,6 +6,7 @@ use Rattle.tape.proofs.Settled.{check-settled, read-settled, write-settled, chec
 use Rattle.tape.proofs.StepWords.{word-by-fields, word-may-hold}
 use Rattle.tape.proofs.RoundTrip.{read_tape_lem, tape-again, read_written, written_again}
 use Rattle.tape.proofs.CallsRoundTrip.{written-reads, read-writes}
+use Rattle.tape.proofs.TapeLaws.{steps-most}
 
 pub statements : Statements
 statements =
@@ -25,6 +26,7 @@ statements =
           λ ed. record {
             reads_back = λ head words long some all fits. read_tape_lem ed head words long some all fits;
             writes_back = λ tape words bytes e. (tape-again ed tape words bytes e).1;
+            most_steps = λ tape words e. steps-most ed tape words e;
           };
       round_trip =
           record {

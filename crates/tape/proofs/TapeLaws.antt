@@ -16,7 +16,10 @@ use Rattle.tape.specs.Bits.{bits_of}
 use Rattle.tape.specs.Edition.{Edition}
 use Rattle.std.specs.Prelude.{Result, Ok, Err}
 use Rattle.tape.specs.Reading.{start, read_steps, boxes_in, least_bytes, head_of, behind, read_in}
+use Rattle.tape.specs.declared.TheConstants.{MOST_STEPS}
+use Rattle.tape.proofs.ByteLaws.{length-bits_of}
 use Rattle.tape.proofs.LayLaws.{part-from}
+use Rattle.tape.proofs.ReadingLaws.{steps-take}
 
 module _ (ed : Edition) (s : List ℕ) where
   pub record GoodHead : Type 0 where
@@ -62,6 +65,14 @@ module _ (ed : Edition) (s : List ℕ) where
       go : (a : Result ℕ Refusal) → head_of ed s ≡ a → behind a (read_steps ed (bits_of (drop 2 s))) ≡ Ok xs → GoodHead
       go (Ok first) e h = head-good first e
       go (Err e) f h = cc
+
+  -- so no tape of 4,096 bytes has more steps
+  pub steps-most : (xs : List ℕ) → read_in ed s ≡ Ok xs → length xs ≤ MOST_STEPS
+  unfolding read_steps
+  steps-most xs e =
+      let h = head-given xs e in
+      let t = bits_of (drop 2 s) in
+      omega (arith, steps-take ed (suc (length t)) t (start ed) xs (sym (read-good h) ∙ e), length-bits_of (drop 2 s), length-drop 2 s, h.most)
 
 -- the next of a list
 pub next-is : (n : ℕ) (xs : List ℕ) (x : ℕ) (ys : List ℕ) → drop n xs ≡ x ∷ ys → (n < length xs) × (drop (n + 1) xs ≡ ys) × (take (n + 1) xs ≡ take n xs ++ (x ∷ []))

@@ -10,6 +10,7 @@ use Rattle.tape.specs.Layout.{fields, kind_of, fields_of, fields_in, no_field}
 use Rattle.tape.specs.Reading.{read_in, read_tape, first_boxes}
 use Rattle.tape.specs.Writing.{is_step, all_steps, size, tape_with, write_tape}
 use Rattle.tape.specs.Promises.{Checked, number_of, recorded, read_answer, CheckPromise, ReadPromise, WritePromise}
+use Rattle.tape.specs.declared.TheConstants.{MOST_STEPS}
 use Rattle.tape.specs.declared.Fields.{Fields}
 use Rattle.tape.specs.declared.Recorded.{Recorded}
 
@@ -44,6 +45,8 @@ pub record AnyEdition (ed : Edition) : Type 0 where
       → all_steps ed words ≡ true → 2 + size ed words ≤ 4096 → read_in ed (tape_with ed head words) ≡ Ok words
   -- what was read is what its head and its steps are written as
   pub writes_back : (tape words : List ℕ) → Bytes tape → read_in ed tape ≡ Ok words → tape ≡ tape_with ed (take ed.head (bits_of tape)) words
+  -- no tape has more steps than the code says: a step takes 6 bits or more, and the end mark 3
+  pub most_steps : (tape words : List ℕ) → read_in ed tape ≡ Ok words → length words ≤ MOST_STEPS
 
 -- ---- The round trip of reading and writing, and of the calls from their promises alone
 
