@@ -1,13 +1,21 @@
 // Notes, configurations and books, and how they are joined; the list of changes, of which the queried configurations are made in changes.rt.
 #![tactic(auto)]
 
-ghost use Rattle.std.specs.Prelude.{◌≡◌, refl};
-ghost use Rattle.books.specs.Books.{notes_part, own_notes, no_book, notes_inside, config_inside, book_inside, join_notes, join_configs, join_books, members_of, has_majority};
+ghost use Rattle.std.specs.Prelude.{◌≡◌, Bool, refl};
+ghost use Rattle.books.specs.Books.{notes_part, own_notes, no_book, notes_inside, config_inside, book_inside, join_notes, join_configs, join_books, same_notes, same_config, members_of, has_majority};
 ghost use Rattle.books.specs.Joined.{notes-joined, configs-joined, books-joined};
 
 mod changes;
 
 use sets::Joins;
+
+// Which values are the same, of a type whose `==` is derived.
+pub trait Same: PartialEq {
+    ghost same_gives: { Self → Self → Bool };
+
+    // What `==` gives.
+    ghost decides: { (a b : Self) → Self.eq a b ≡ same_gives a b };
+}
 
 // Notes as a set of 128: note n has weight 2^n in `low`, from 64 on 2^(n - 64) in `high`. Only this crate takes them apart.
 // Two words and no `u128`: `notes_part` (specs/Books.antt) and `InWords` (specs/Statements.antt) speak of parts of 64 bits.
@@ -88,6 +96,12 @@ impl Joins for Notes {
     ghost adds_nothing = { λ a b. refl };
 }
 
+impl Same for Notes {
+    ghost same_gives = { same_notes };
+
+    ghost decides = { λ a b. refl };
+}
+
 impl Config {
     // The boxes added and not removed.
     pub fn members(self) -> u16
@@ -119,6 +133,12 @@ impl Joins for Config {
     ghost laws = { configs-joined };
 
     ghost adds_nothing = { λ a b. refl };
+}
+
+impl Same for Config {
+    ghost same_gives = { same_config };
+
+    ghost decides = { λ a b. refl };
 }
 
 impl Book {
