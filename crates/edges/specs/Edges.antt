@@ -2,7 +2,7 @@
 -- (`edges-hold`), each seen by computing the rules themselves.
 use Rattle.std.specs.Prelude.{ℕ, ◌+◌, ◌*◌, ◌^◌, Bool, true, false, List, [], ◌∷◌, ◌≡◌, refl, Option, Some, None, Result, Ok, Err}
 use Rattle.refusals.specs.declared.Refusal.{Refusal}
-use Rattle.refusals.specs.declared.Refusal.TheVariants.{NotAllowed, NoFirstBox, EndsTooSoon, NoStep, BehindTheEnd}
+use Rattle.refusals.specs.Refusals.{number}
 use Rattle.sets.specs.Choice.{pick}
 use Rattle.sets.specs.Sets.{inside}
 use Rattle.sets.specs.Bounded.{times, each, unions, how_many, those}
@@ -13,13 +13,14 @@ use Rattle.books.specs.declared.Listed.{Listed}
 use Rattle.books.specs.declared.Notes.{Notes}
 use Rattle.books.specs.Books.{notes_of, own_notes, no_config, members_of, has_majority}
 use Rattle.books.specs.Queried.{first_place, place_of, with_change, outside, joined_with, every_majority, asked_boxes}
+use Rattle.devices.specs.declared.Accepted.{Accepted}
 use Rattle.devices.specs.declared.Accepted.TheVariants.{Round}
 use Rattle.devices.specs.declared.Phase.{Phase}
 use Rattle.devices.specs.declared.Phase.TheVariants.{Idle, Asks}
 use Rattle.devices.specs.declared.Step.{Step}
 use Rattle.devices.specs.declared.Step.TheVariants.{Ask, Advance, Deliver}
 use Rattle.devices.specs.Contents.{merged}
-use Rattle.devices.specs.Effects.{Outcome, only, copies, refuse}
+use Rattle.devices.specs.Effects.{only, copies, refuse}
 use Rattle.rules.specs.Rules.{begun, ask_with, ask_pair, ask, marked, deliver, decided, allowed, steady, commit, adopt_or, advance_from, advance, stop, ruled, effect_of}
 use Rattle.state.specs.declared.Run.{Run}
 use Rattle.state.specs.Slots.{all, many, laid}
@@ -67,31 +68,36 @@ abbrev pub floor_of : Phase → Option Book
 floor_of Idle = None
 floor_of (Asks a) = a.floor
 
+-- what is given, or the number of the refusal
+abbrev pub told : {A : Type 0} → Result A Refusal → Result A ℕ
+told (Ok given) = Ok given
+told (Err refusal) = Err (number refusal)
+
 -- ---- The table
 
--- a row: boxes added, removed and answered, with the majority's yes or no; a tape, with what reading it comes to; a tape, with the one device that
+-- a row: boxes added, removed and answered, with the majority's yes or no; a tape, with what reading it gives, or its number; a tape, with the one device that
 -- its steps leave stopped; a tape and a device, with the device's candidates then; first boxes, steps, the latest first, a tablet and
 -- a set of changes, with what the tablet then queries; the same without changes, with the tablet's floor;
--- or first boxes, a step and the steps before it, the latest first, with the step's outcome
+-- or first boxes, a step and the steps before it, the latest first, with what the step gives, or its number
 pub data Edge : Type 0 where
   a_majority : ℕ → ℕ → ℕ → Bool → Edge
-  a_tape : List ℕ → Result (List ℕ) Refusal → Edge
+  a_tape : List ℕ → Result (List ℕ) ℕ → Edge
   a_stop : List ℕ → ℕ → Edge
   a_candidates : List ℕ → ℕ → Notes → Edge
   a_query : ℕ → List Step → ℕ → ℕ → Query → Edge
   a_floor : ℕ → List Step → ℕ → Option Book → Edge
-  a_run : ℕ → Step → List Step → Outcome → Edge
+  a_run : ℕ → Step → List Step → Result Accepted ℕ → Edge
 
 -- what a row says
 abbrev pub Says : Edge → Type 0
 Says (a_majority added removed answered holds) = majority_of added removed answered ≡ holds
-Says (a_tape tape outcome) = read_tape tape ≡ outcome
+Says (a_tape tape outcome) = told (read_tape tape) ≡ outcome
 Says (a_stop tape device) = (state_after tape).stopped ≡ only device
 Says (a_candidates tape device notes) = (device_at device (state_after tape)).candidates ≡ notes
 Says (a_query boxes steps tablet changes query) =
     queried (after boxes steps).listed changes (tablet_at tablet (after boxes steps)).phase ≡ Some query
 Says (a_floor boxes steps tablet floor) = floor_of (tablet_at tablet (after boxes steps)).phase ≡ floor
-Says (a_run boxes step earlier outcome) = (taken step (after boxes earlier)).outcome ≡ outcome
+Says (a_run boxes step earlier outcome) = told (taken step (after boxes earlier)).outcome ≡ outcome
 
 -- an ask of tablet 0 that removes box 0 of the one first box, its request heard by the box, and the answer by the tablet
 abbrev pub only_box_removed : List Step
@@ -128,21 +134,21 @@ edges =
     ∷ a_majority 0x0000 0x0000 0xffff false
     -- "tape `00 07 e0` has no steps; `00 00 e0` is 12; `00 07` is 13; `00 07 e1` and `00 07 e0 00` are 15; `00 07 c0` becomes 13"
     ∷ a_tape (0x00 ∷ 0x07 ∷ 0xe0 ∷ []) (Ok [])
-    ∷ a_tape (0x00 ∷ 0x00 ∷ 0xe0 ∷ []) (Err NoFirstBox)
-    ∷ a_tape (0x00 ∷ 0x07 ∷ []) (Err EndsTooSoon)
-    ∷ a_tape (0x00 ∷ 0x07 ∷ 0xe1 ∷ []) (Err BehindTheEnd)
-    ∷ a_tape (0x00 ∷ 0x07 ∷ 0xe0 ∷ 0x00 ∷ []) (Err BehindTheEnd)
-    ∷ a_tape (0x00 ∷ 0x07 ∷ 0xc0 ∷ []) (Err EndsTooSoon)
+    ∷ a_tape (0x00 ∷ 0x00 ∷ 0xe0 ∷ []) (Err 12)
+    ∷ a_tape (0x00 ∷ 0x07 ∷ []) (Err 13)
+    ∷ a_tape (0x00 ∷ 0x07 ∷ 0xe1 ∷ []) (Err 15)
+    ∷ a_tape (0x00 ∷ 0x07 ∷ 0xe0 ∷ 0x00 ∷ []) (Err 15)
+    ∷ a_tape (0x00 ∷ 0x07 ∷ 0xc0 ∷ []) (Err 13)
     -- "`00 07 b7 e0` stops box 15; `00 07 b8 e0` is 14; `00 07 a0` is 13"
     ∷ a_tape (0x00 ∷ 0x07 ∷ 0xb7 ∷ 0xe0 ∷ []) (Ok (stops_box15 ∷ []))
     ∷ a_stop (0x00 ∷ 0x07 ∷ 0xb7 ∷ 0xe0 ∷ []) 23
-    ∷ a_tape (0x00 ∷ 0x07 ∷ 0xb8 ∷ 0xe0 ∷ []) (Err NoStep)
-    ∷ a_tape (0x00 ∷ 0x07 ∷ 0xa0 ∷ []) (Err EndsTooSoon)
+    ∷ a_tape (0x00 ∷ 0x07 ∷ 0xb8 ∷ 0xe0 ∷ []) (Err 14)
+    ∷ a_tape (0x00 ∷ 0x07 ∷ 0xa0 ∷ []) (Err 13)
     -- "A long Ask whose last eight notes are all absent is not a tape step": tablet 0 with own notes 0x0100, and with 0x00ff
     ∷ a_tape (0x00 ∷ 0x07 ∷ 0xc0 ∷ 0x04 ∷ 0x00 ∷ 0x00 ∷ 0x00 ∷ 0x00 ∷ 0x03 ∷ 0x80 ∷ []) (Ok (0xc004000000000000 ∷ []))
-    ∷ a_tape (0x00 ∷ 0x07 ∷ 0xc0 ∷ 0x03 ∷ 0xfc ∷ 0x00 ∷ 0x00 ∷ 0x00 ∷ 0x03 ∷ 0x80 ∷ []) (Err NoStep)
+    ∷ a_tape (0x00 ∷ 0x07 ∷ 0xc0 ∷ 0x03 ∷ 0xfc ∷ 0x00 ∷ 0x00 ∷ 0x00 ∷ 0x03 ∷ 0x80 ∷ []) (Err 14)
     -- too few bits come first, though the last eight notes are seen to be absent
-    ∷ a_tape (0x00 ∷ 0x07 ∷ 0xc0 ∷ 0x03 ∷ 0xfc ∷ 0x00 ∷ 0x00 ∷ 0x00 ∷ []) (Err EndsTooSoon)
+    ∷ a_tape (0x00 ∷ 0x07 ∷ 0xc0 ∷ 0x03 ∷ 0xfc ∷ 0x00 ∷ 0x00 ∷ 0x00 ∷ []) (Err 13)
     -- "The old Ask stays and means the first eight of the sixteen": notes 112 to 119 of tablet 7
     ∷ a_candidates first_eight_asked 7 (notes_of (0xff * 2 ^ 112))
     -- "Tablet t is to own 16t to 16t+15": note 127 is the highest of tablet 7
@@ -150,7 +156,7 @@ edges =
     -- "first box 0 only, an ask removing box 0, box 0 answers: Advance is 6, as one queried configuration has no members"
     ∷ a_query 0x0001 only_box_removed 0 0 own_config
     ∷ a_query 0x0001 only_box_removed 0 (2 ^ 0) with_removal
-    ∷ a_run 0x0001 (Advance 0) only_box_removed (Err NotAllowed)
+    ∷ a_run 0x0001 (Advance 0) only_box_removed (Err 6)
     -- "its Advance gives R 2", and "the floor holds notes 0 and 16"
     ∷ a_run 0x0007 (Advance 1) both_asked (Ok (Round 2))
     ∷ a_floor 0x0007 (Advance 1 ∷ both_asked) 1 (Some both_notes)
