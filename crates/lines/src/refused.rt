@@ -1,6 +1,5 @@
 // A refused tape on standard error: the number of the refusal, and its reason in words.
 use refusals::Refusal;
-use streams::say;
 
 // The reason alone, where there is one. No Display: a newtype and its impl are longer than this match, for one use.
 fn reason(refusal: Refusal) -> &'static str {
@@ -14,10 +13,9 @@ fn reason(refusal: Refusal) -> &'static str {
     }
 }
 
+// Piece by piece: where one cannot be written, the next is tried all the same.
 pub fn say_refused(rt: &impl Eprint, refusal: Refusal) {
-    let number = u8::from(refusal);
-    say(
-        rt,
-        format_args!("the tape is refused by {number}{}", reason(refusal)),
-    );
+    let _ = rt.eprint("the tape is refused by ");
+    let _ = rt.eprint(u8::from(refusal));
+    let _ = rt.eprintln(reason(refusal));
 }

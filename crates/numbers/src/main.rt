@@ -13,27 +13,26 @@
 #![tactic(auto)]
 
 use given::{Given, Piece, Pieces};
-use std::io;
 
 mod shown;
 
-fn say_words(rt: &impl Print, words: &[u8]) -> io::Result<()> {
-    rt.write_all(words)?;
-    print!(rt; ": ")
+fn say_words(rt: &impl Print, words: &[u8]) {
+    // Where they cannot be printed, what is behind them is tried all the same.
+    let _ = rt.write_all(words);
+    shown::say(rt, ": ");
 }
 
-// Where a line cannot be printed, the next is tried all the same.
 fn examples(rt: &impl Print, text: &[u8]) {
     let mut given = Given::default();
     for piece in Pieces::of(text) {
         match piece {
             Piece::Words(words) => {
                 given = Given::default();
-                let _ = say_words(rt, words);
+                say_words(rt, words);
             }
             Piece::Part(part) => {
                 if !given.take(part) {
-                    let _ = shown::show(rt, &given, part);
+                    shown::show(rt, &given, part);
                 }
             }
         }

@@ -1,7 +1,8 @@
 // What a step, the start and the unplug question answer, behind the words of an example.
 use devices::{Accepted, Step};
 use given::{Given, Part, byte, pair, two_bytes};
-use std::io;
+use state::{Run, Stepped};
+use std::fmt::Display;
 
 // What a part asks.
 #[derive(Clone, Copy)]
@@ -35,46 +36,59 @@ impl Asked {
     }
 }
 
+// A piece of a line. Where it cannot be printed, the next is tried all the same.
+pub(crate) fn say(rt: &impl Print, piece: impl Display + Drop) {
+    let _ = rt.print(piece);
+}
+
+// One step. A call of its own, so that its stack can be read off the program (tools/bench).
+#[inline(never)]
+fn taken(run: Run, step: Step) -> Stepped {
+    parlour::step(run, step)
+}
+
 // An outcome's number and what it brings besides, and of a refusal whether it hands back the very state.
-fn show_step(rt: &impl Print, given: &Given, step: Step) -> io::Result<()> {
+fn say_step(rt: &impl Print, given: &Given, step: Step) {
     let run = given.state();
-    let stepped = parlour::step(run, step);
+    let stepped = taken(run, step);
+    say(rt, devices::number_of(stepped.outcome));
     match stepped.outcome {
-        Ok(Accepted::Done) => println!(rt; "0"),
-        Ok(Accepted::Round(round)) => println!(rt; "0 R {round}"),
-        Ok(Accepted::Committed(_)) => println!(rt; "0 C"),
-        Ok(Accepted::Adopted(_)) => println!(rt; "0 A"),
-        Err(refusal) => {
-            let number = u8::from(refusal);
-            let state = if stepped.run == run {
-                "state as given"
-            } else {
-                "STATE CHANGED"
-            };
-            println!(rt; "{number}, {state}")
+        Ok(Accepted::Done) => (),
+        Ok(Accepted::Round(round)) => {
+            say(rt, " R ");
+            say(rt, round);
+        }
+        Ok(Accepted::Committed(_)) => say(rt, " C"),
+        Ok(Accepted::Adopted(_)) => say(rt, " A"),
+        Err(_) => {
+            let same = stepped.run == run;
+            say(
+                rt,
+                if same {
+                    ", state as given"
+                } else {
+                    ", STATE CHANGED"
+                },
+            );
         }
     }
 }
 
-fn show_start(rt: &impl Print, first: u16) -> io::Result<()> {
-    let number = devices::number_of(state::start(first).outcome);
-    println!(rt; "{number}")
-}
-
-fn show_unplug(rt: &impl Print, given: &Given, number: u8) -> io::Result<()> {
+fn say_unplug(rt: &impl Print, given: &Given, number: u8) {
     match parlour::may_unplug(given.state(), number) {
-        Ok(true) => println!(rt; "0 yes"),
-        Ok(false) => println!(rt; "0 no"),
-        Err(refusal) => println!(rt; "{}", u8::from(refusal)),
+        Ok(true) => say(rt, "0 yes"),
+        Ok(false) => say(rt, "0 no"),
+        Err(refusal) => say(rt, u8::from(refusal)),
     }
 }
 
 // Shows what a part asks of a state.
-pub(crate) fn show(rt: &impl Print, given: &Given, part: Part) -> io::Result<()> {
+pub(crate) fn show(rt: &impl Print, given: &Given, part: Part) {
     match Asked::of(part) {
-        Some(Asked::Step(step)) => show_step(rt, given, step),
-        Some(Asked::Start(first)) => show_start(rt, first),
-        Some(Asked::Unplug(number)) => show_unplug(rt, given, number),
-        None => println!(rt; "NO SUCH PART"),
+        Some(Asked::Step(step)) => say_step(rt, given, step),
+        Some(Asked::Start(first)) => say(rt, devices::number_of(state::start(first).outcome)),
+        Some(Asked::Unplug(number)) => say_unplug(rt, given, number),
+        None => say(rt, "NO SUCH PART"),
     }
+    say(rt, "\n");
 }

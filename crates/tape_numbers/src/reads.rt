@@ -2,8 +2,7 @@
 // leaves it, and an accepted tape leaves the places beyond its steps.
 ghost use Rattle.std.specs.Prelude.{◌≤◌, length};
 
-use crate::said::{Bytes, Example, lent};
-use std::io;
+use crate::said::{Bytes, Example, lent, say};
 use tape::Recorded;
 
 // A tape, and how many places of a row are lent to read it.
@@ -20,7 +19,7 @@ pub(crate) enum Reading<'a> {
 }
 
 impl Example for Reading<'_> {
-    fn show(&self, rt: &impl Print) -> io::Result<()> {
+    fn show(&self, rt: &impl Print) {
         match *self {
             Reading::Tape(tape, places) => read(rt, tape, places),
             Reading::Long {
@@ -32,14 +31,19 @@ impl Example for Reading<'_> {
     }
 }
 
-fn read(rt: &impl Print, tape: &[u8], places: usize) -> io::Result<()> {
-    let bytes = Bytes(tape);
-    print!(rt; "  {bytes}")?;
-    read_into(rt, tape, &mut [7; 3], places)
+fn read(rt: &impl Print, tape: &[u8], places: usize) {
+    let (boxes, steps) = tape.split_at(tape.len().min(2));
+    say(rt, "  ");
+    say(rt, Bytes(boxes));
+    say(rt, Bytes(steps));
+    read_into(rt, tape, &mut [7; 3], places);
 }
 
-fn read_long(rt: &impl Print, size: usize, first: u8, places: usize) -> io::Result<()> {
-    print!(rt; "  {size} bytes with first boxes {first:04x}")?;
+fn read_long(rt: &impl Print, size: usize, first: u8, places: usize) {
+    say(rt, "  ");
+    say(rt, size);
+    say(rt, " bytes with first boxes ");
+    say(rt, format_args!("{first:04x}"));
     let mut bytes = [0xa0; 4097];
     let size = lent(size, &bytes);
     let tape = &mut bytes[..size];
@@ -48,24 +52,39 @@ fn read_long(rt: &impl Print, size: usize, first: u8, places: usize) -> io::Resu
         *high = first;
         *last = 0xe0;
     }
-    read_into(rt, tape, &mut [7; 4094], places)
+    read_into(rt, tape, &mut [7; 4094], places);
+}
+
+fn say_recorded(rt: &impl Print, recorded: Recorded) {
+    let first = recorded.first;
+    say(rt, "0 first ");
+    say(rt, format_args!("{first:04x}"));
+    say(rt, " steps ");
+    say(rt, recorded.steps);
+}
+
+fn say_word(rt: &impl Print, word: u64) {
+    say(rt, " ");
+    say(rt, format_args!("{word:x}"));
 }
 
 // Reads a tape into the first places of a row, of which the first and the last two are shown.
-fn read_into(rt: &impl Print, tape: &[u8], row: &mut [u64], places: usize) -> io::Result<()>
+fn read_into(rt: &impl Print, tape: &[u8], row: &mut [u64], places: usize)
     requires { 3 ≤ length row.old }
 {
     let places = lent(places, row);
-    print!(rt; " into {places} places: ")?;
+    say(rt, " into ");
+    say(rt, places);
+    say(rt, " places: ");
     match tape::read_tape(tape, &mut row[..places]) {
-        Ok(Recorded { first, steps }) => {
-            print!(rt; "0 first {first:04x} steps {steps}")?;
-        }
-        Err(refusal) => print!(rt; "{}", u8::from(refusal))?,
+        Ok(recorded) => say_recorded(rt, recorded),
+        Err(refusal) => say(rt, u8::from(refusal)),
     }
-    let check = tape::tape_check(tape).err().map_or(0, u8::from);
-    let first = row[0];
-    let last_but_one = row[row.len() - 2];
-    let last = row[row.len() - 1];
-    println!(rt; ", check {check}, row {first:x} {last_but_one:x} {last:x}")
+    say(rt, ", check ");
+    say(rt, tape::tape_check(tape).err().map_or(0, u8::from));
+    say(rt, ", row");
+    say_word(rt, row[0]);
+    say_word(rt, row[row.len() - 2]);
+    say_word(rt, row[row.len() - 1]);
+    say(rt, "\n");
 }

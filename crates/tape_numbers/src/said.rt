@@ -1,11 +1,12 @@
 // What the examples of reading and of writing share: how they are gone through, how much is lent, and how bytes are printed.
 ghost use Rattle.streams.specs.Counts.{IsPrefixLen};
 
-use std::{fmt, io};
+use std::fmt;
+use std::fmt::Display;
 
 // An example, which is tried and printed as a line.
 pub(crate) trait Example {
-    fn show(&self, rt: &impl Print) -> io::Result<()>;
+    fn show(&self, rt: &impl Print);
 }
 
 // Examples, and the words for them, which begin with the number that they are about.
@@ -14,14 +15,19 @@ pub(crate) struct Group<'a, E> {
     pub examples: &'a [E],
 }
 
-// Where a line cannot be printed, the next is tried all the same.
 pub(crate) fn show_all<E: Example>(rt: &impl Print, groups: &[Group<'_, E>]) {
     for group in groups {
-        let _ = println!(rt; "{}", group.about);
+        let about = group.about;
+        say(rt, format_args!("{about}\n"));
         for example in group.examples {
-            let _ = example.show(rt);
+            example.show(rt);
         }
     }
+}
+
+// A piece of a line. Where it cannot be printed, the next is tried all the same.
+pub(crate) fn say(rt: &impl Print, piece: impl Display + Drop) {
+    let _ = rt.print(piece);
 }
 
 // How many of some bytes or words are lent: a number of them, or all.

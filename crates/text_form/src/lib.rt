@@ -18,9 +18,12 @@ const STEP_PLACES: usize = tape::MOST_STEPS + 1;
 
 pub type StepWords = ArrayVec<u64, STEP_PLACES>;
 
-// A bad line, said.
+// A bad line, said piece by piece: where one cannot be written, the next is tried all the same.
 fn refused(rt: &impl Eprint, bad: BadLine) -> Failure {
-    streams::say(rt, bad);
+    let _ = rt.eprint("line ");
+    let _ = rt.eprint(bad.line);
+    let _ = rt.eprint(": ");
+    let _ = rt.eprintln(bad.wrong);
     Failure::Refused
 }
 

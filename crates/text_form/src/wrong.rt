@@ -43,9 +43,3 @@ impl fmt::Display for Wrong {
         })
     }
 }
-
-impl fmt::Display for BadLine {
-    fn fmt<W: fmt::Write>(&self, f: &mut fmt::Formatter<W>) -> fmt::Result {
-        write!(f, "line {}: {}", self.line, self.wrong)
-    }
-}
