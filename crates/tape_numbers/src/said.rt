@@ -25,7 +25,8 @@ pub(crate) fn show_all<E: Example>(rt: &impl Print, groups: &[Group<'_, E>]) {
     }
 }
 
-// A piece of a line. Where it cannot be printed, the next is tried all the same.
+// A piece of a line, one write each: where it cannot be printed, the next is tried all the same. So first boxes and what stands behind them
+// are pieces of their own.
 pub(crate) fn say(rt: &impl Print, piece: impl Display + Drop) {
     let _ = rt.print(piece);
 }
